@@ -1,0 +1,5 @@
+pub mod Order
+pub mod Fields
+pub mod Line
+pub mod Rows
+pub mod Trips

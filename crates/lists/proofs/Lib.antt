@@ -1,0 +1,9 @@
+pub mod Cases
+pub mod Splicing
+pub mod Parts
+pub mod MapLoop
+pub mod FindLoop
+pub mod AnyLoop
+pub mod SameLoop
+pub mod CountLoop
+pub mod Clear

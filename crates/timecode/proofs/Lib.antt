@@ -1,0 +1,4 @@
+pub mod Digits
+pub mod Labels
+pub mod Trips
+pub mod Rows

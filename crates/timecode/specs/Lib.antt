@@ -1,0 +1,4 @@
+pub mod Label
+pub mod Read
+pub mod Trips
+pub mod Steps

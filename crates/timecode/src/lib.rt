@@ -1,0 +1,169 @@
+// Timecodes: the frames of a day and their labels HH:MM:SS:FF.
+use refusal::Refusal;
+use text::Written;
+ghost use mathlib.Core.Path.{_≡_};
+ghost use Prim.Native.Nat.{_+_, _/_, _<_};
+ghost use lib.ListN.{length};
+ghost use Rattle.text.specs.Digits.{lastDigit};
+ghost use Rattle.text.specs.Number.{isDigit};
+ghost use Rattle.text.specs.Write.{WritesIf};
+ghost use Rattle.timecode.specs.Label.{label};
+ghost use Rattle.timecode.specs.Read.{ofTimecode, inDay, takeFrame, twoAt, twoBelow, isLabel, frameOf, readTimecode};
+ghost use Rattle.timecode.specs.Steps.{hasColons, inRange, Digits, IsLabel};
+
+// A frame, by its number. Those of the day have labels.
+pub struct Timecode {
+    pub frame: u32,
+}
+
+// A timecode, or 3.
+pub enum TimecodeAnswer {
+    Is(Timecode),
+    Refused(Refusal),
+}
+
+impl Timecode {
+    // Frames a second.
+    pub const RATE: u32 = 25;
+
+    // Frames of a day.
+    pub const DAY: u32 = 24 * 60 * 60 * Timecode::RATE;
+
+    // The timecode of a frame of the day.
+    pub fn of_frame(frame: u32) -> TimecodeAnswer
+        ensures { λ r. ⌜ ofTimecode r ≡ takeFrame frame ⌝ }
+    {
+        if frame < Timecode::DAY {
+            TimecodeAnswer::Is(Timecode { frame })
+        } else {
+            TimecodeAnswer::Refused(Refusal::Timecode)
+        }
+    }
+
+    // The timecode that a label names.
+    pub fn read(s: &[u8]) -> TimecodeAnswer
+        ensures { λ r. ⌜ ofTimecode r ≡ readTimecode (now (s .entry)) ⌝ }
+    {
+        if is_label(s) {
+            TimecodeAnswer::Is(Timecode { frame: frame_of(s) })
+        } else {
+            TimecodeAnswer::Refused(Refusal::Timecode)
+        }
+    }
+
+    // The label; beyond the day it shows the last two digits of the hours.
+    pub fn label(self) -> [u8; 11]
+        ensures { λ r. ⌜ r ≡ label (self .frame) ⌝ }
+    {
+        let t = self.frame;
+        let hours = t / (60 * 60 * Timecode::RATE);
+        let minutes = t / (60 * Timecode::RATE) % 60;
+        let seconds = t / Timecode::RATE % 60;
+        let frames = t % Timecode::RATE;
+        [
+            tens(hours),
+            ones(hours),
+            b':',
+            tens(minutes),
+            ones(minutes),
+            b':',
+            tens(seconds),
+            ones(seconds),
+            b':',
+            tens(frames),
+            ones(frames),
+        ]
+    }
+
+    // The label into a lent slice: 3 for a frame outside the day, then 9.
+    pub fn write(self, out: &mut [u8], at: usize) -> Written
+        ensures { λ r. ⌜ WritesIf (inDay (self .frame)) 3 (now (out .entry)) at (label (self .frame)) r (now (out .exit)) ⌝ }
+    {
+        if self.frame < Timecode::DAY {
+            let bytes = self.label();
+            text::write_bytes(out, at, &bytes)
+        } else {
+            Written::Refused(Refusal::Timecode)
+        }
+    }
+}
+
+// ---- digits written
+
+fn tens(n: u32) -> u8
+    ensures { λ r. ⌜ r ≡ lastDigit (n / 10) ⌝ }
+{
+    b'0' + (n / 10 % 10) as u8
+}
+
+fn ones(n: u32) -> u8
+    ensures { λ r. ⌜ r ≡ lastDigit n ⌝ }
+{
+    b'0' + (n % 10) as u8
+}
+
+// ---- labels read: small tests are joined by `&`, which has no branch
+
+fn is_digit(x: u8) -> bool
+    ensures { λ r. ⌜ r ≡ isDigit x ⌝ }
+{
+    (b'0' <= x) & (x <= b'9')
+}
+
+// The number of the two digits at place k.
+fn two_at(s: &[u8], k: usize) -> u32
+    requires { ⌜ Digits (now s) k ⌝ }
+    ensures { λ r. ⌜ r ≡ twoAt (now (s .entry)) k ⌝ }
+{
+    let tens = (s[k] - b'0') as u32;
+    let ones = (s[k + 1] - b'0') as u32;
+    tens * 10 + ones
+}
+
+// Two digits at place k, their number below m.
+fn two_below(s: &[u8], k: usize, m: u32) -> bool
+    requires { ⌜ k + 1 < length (now s) ⌝ }
+    ensures { λ r. ⌜ r ≡ twoBelow (now (s .entry)) k m ⌝ }
+{
+    if is_digit(s[k]) & is_digit(s[k + 1]) {
+        two_at(s, k) < m
+    } else {
+        false
+    }
+}
+
+fn has_colons(s: &[u8]) -> bool
+    requires { ⌜ length (now s) ≡ 11 ⌝ }
+    ensures { λ r. ⌜ r ≡ hasColons (now (s .entry)) ⌝ }
+{
+    (s[2] == b':') & ((s[5] == b':') & (s[8] == b':'))
+}
+
+// Hours, minutes, seconds and frames, each within its range.
+fn in_range(s: &[u8]) -> bool
+    requires { ⌜ length (now s) ≡ 11 ⌝ }
+    ensures { λ r. ⌜ r ≡ inRange (now (s .entry)) ⌝ }
+{
+    two_below(s, 0, 24)
+        & (two_below(s, 3, 60) & (two_below(s, 6, 60) & two_below(s, 9, Timecode::RATE)))
+}
+
+fn is_label(s: &[u8]) -> bool
+    ensures { λ r. ⌜ r ≡ isLabel (now (s .entry)) ⌝ }
+{
+    if s.len() == 11 {
+        has_colons(s) & in_range(s)
+    } else {
+        false
+    }
+}
+
+// The frame that a label names.
+fn frame_of(s: &[u8]) -> u32
+    requires { ⌜ IsLabel (now s) ⌝ }
+    ensures { λ r. ⌜ r ≡ frameOf (now (s .entry)) ⌝ }
+{
+    let minutes = two_at(s, 0) * 60 + two_at(s, 3);
+    let seconds = minutes * 60 + two_at(s, 6);
+    seconds * Timecode::RATE + two_at(s, 9)
+}
