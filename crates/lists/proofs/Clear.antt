@@ -2,11 +2,11 @@
 use mathlib.Core.Bool.{Bool, true, false, not, _&&_}
 use mathlib.Core.Path.{_≡_, refl, ap, _∙_}
 use mathlib.Core.List.{List, [], _∷_, _++_}
-use Prim.Native.Nat.{ℕ, suc}
+use Prim.Native.Nat.{ℕ, zero, suc, _<_}
 use native.Mathlib.Omega.{arith}
 use borrow.Author.Tests.{eqb-false, not-true}
 use lib.Dec.{eqb}
-use lib.ListN.{length}
+use lib.ListN.{length, getD}
 use Rattle.lists.specs.Lists.{all, onFirst, splitOn, upTo}
 use Rattle.lists.proofs.Cases.{and-true, fst-true, snd-true}
 use Rattle.lists.proofs.Parts.{here, later, split-here, split-later}
@@ -16,10 +16,24 @@ pub all-append : {A : Type 0} (p : A → Bool) (a b : List A) → all p a ≡ tr
 all-append p [] b e f = f
 all-append p (x ∷ a) b e f = and-true (fst-true (p x) (all p a) e) (all-append p a b (snd-true (p x) (all p a) e) f)
 
+pub all-front : {A : Type 0} (p : A → Bool) (a b : List A) → all p (a ++ b) ≡ true → all p a ≡ true
+all-front p [] b e = refl
+all-front p (x ∷ a) b e = and-true (fst-true (p x) (all p (a ++ b)) e) (all-front p a b (snd-true (p x) (all p (a ++ b)) e))
+
+pub all-back : {A : Type 0} (p : A → Bool) (a b : List A) → all p (a ++ b) ≡ true → all p b ≡ true
+all-back p [] b e = e
+all-back p (x ∷ a) b e = all-back p a b (snd-true (p x) (all p (a ++ b)) e)
+
 -- a test that passes less often
 pub all-weaker : {A : Type 0} (p q : A → Bool) → ((x : A) → p x ≡ true → q x ≡ true) → (a : List A) → all p a ≡ true → all q a ≡ true
 all-weaker p q h [] e = refl
 all-weaker p q h (x ∷ a) e = and-true (h x (fst-true (p x) (all p a) e)) (all-weaker p q h a (snd-true (p x) (all p a) e))
+
+-- what every element passes, the one at place i passes
+pub all-at : {A : Type 0} (p : A → Bool) (l : List A) (i : ℕ) (d : A) → all p l ≡ true → i < length l → p (getD l i d) ≡ true
+all-at p [] i d e h = absurd (omega arith)
+all-at p (x ∷ l) zero d e h = fst-true (p x) (all p l) e
+all-at p (x ∷ l) (suc i) d e h = all-at p l i d (snd-true (p x) (all p l) e) (omega arith)
 
 -- no element is c
 pub record Clear (c : ℕ) (s : List ℕ) : Type 0 where

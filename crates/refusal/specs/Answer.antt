@@ -3,6 +3,8 @@ use mathlib.Core.List.{List, [], _++_}
 use Prim.Native.Nat.{ℕ}
 use lib.Dec.{eqb}
 use Rattle.lists.specs.Choice.{choose}
+use Rattle.refusal.specs.declared.Verdict.{Verdict}
+use Rattle.refusal.specs.declared.Verdict.the-variants.{Accepted, Refused}
 use Rattle.refusal.specs.declared.Refusal.{Refusal}
 use Rattle.refusal.specs.declared.Refusal.the-variants.{Form, Number, Timecode, Place, Taken, Servers, Period, Identity, Short, Past, Down, Up, Role, Link, DayOver}
 
@@ -39,3 +41,8 @@ numberOf Up = 13
 numberOf Role = 14
 numberOf Link = 15
 numberOf DayOver = 16
+
+-- the number of a verdict, 0 where the call is accepted
+abbrev pub ofVerdict : Verdict → ℕ
+ofVerdict Accepted = 0
+ofVerdict (Refused r) = numberOf r

@@ -35,6 +35,12 @@ pub enum Refusal {
     DayOver,
 }
 
+// Whether a call is accepted.
+pub enum Verdict {
+    Accepted,
+    Refused(Refusal),
+}
+
 impl Refusal {
     // The number in document 01's lists.
     pub fn number(self) -> u8

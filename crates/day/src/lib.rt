@@ -1,0 +1,1 @@
+// The day format and the sheet. So far its definitions only, in specs/.

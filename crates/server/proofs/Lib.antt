@@ -1,0 +1,3 @@
+pub mod Timing
+pub mod Table
+pub mod Acting
