@@ -21,7 +21,7 @@ most = 16
 abbrev pub empty : Table
 empty = record { servers = replicate most absent }
 
--- a place with no server has identity 0, which "means noPlace"
+-- a place with no server has identity 0, which "means nobody"
 abbrev pub isEmpty : Server → Bool
 isEmpty s = eqb (s .identity) 0
 

@@ -17,7 +17,7 @@ use Rattle.server.specs.declared.Verb.the-variants.{Start, Ready, Unready, Pass
 use Rattle.server.specs.Period.{leastPeriod, greatestPeriod}
 use Rattle.server.specs.Verbs.{paired}
 
--- a line read: the number that it is refused with, or what it whenGood
+-- a line read: the number that it is refused with, or what it says
 pub data DayLine : Type 0 where
   wrong : ℕ → DayLine
   period : ℕ → DayLine
@@ -35,7 +35,7 @@ unfoldable pub linesIn : List ℕ → List (List ℕ)
 linesIn [] = []
 linesIn (x ∷ s) = elim (eqb x 10) [ true ↦ (x ∷ []) ∷ linesIn s | false ↦ onFirst x (linesIn s) ]
 
--- what a line whenGood where its fields have the answer a; else its first fault: "Fields are tested left to right for 2 and 3"
+-- what a line says where its fields have the answer a; else its first fault: "Fields are tested left to right for 2 and 3"
 unfoldable pub whenGood : Answer → (List ℕ → DayLine) → DayLine
 whenGood a f = choose (eqb (a .number) 0) (f (a .values)) (wrong (a .number))
 

@@ -46,7 +46,7 @@ same-bool true false e = sym e
 same-bool false true e = e
 same-bool false false e = refl
 
--- what a row whenGood, as a test
+-- what a row says, as a test
 holds : Row → Bool
 holds (day d s) = same (sheet d) s
 holds (timecode l n vs) = eqb (readTimecode l .number) n && same (readTimecode l .values) vs

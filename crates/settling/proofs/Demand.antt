@@ -1,0 +1,142 @@
+-- Demand 3: the channel after any list of calls is sound, its links are whole where none is cut, and the calls that follow only
+-- count frames. Assumes nothing.
+use mathlib.Core.Bool.{true, false, not}
+use mathlib.Core.Path.{_≡_, refl, sym, ap, subst, _∙_}
+use mathlib.Core.List.{List, [], _∷_}
+use Prim.Native.Nat.{ℕ, zero, suc, _+_, _-_, _*_}
+use native.Mathlib.Omega.{arith}
+use borrow.Author.Tests.{eq-eqb}
+use lib.Dec.{eqb}
+use lib.ListN.{length, getD-replicate}
+use Rattle.lists.specs.Choice.{choose}
+use Rattle.lists.proofs.Cases.{chosen, fst-true, snd-true}
+use Rattle.heartbeat.specs.declared.Rank.{Rank}
+use Rattle.server.specs.declared.Period.{Period}
+use Rattle.server.specs.Period.{silenceLimit, prospectLimit}
+use Rattle.channel.specs.declared.Table.{Table}
+use Rattle.channel.specs.declared.Channel.{Channel}
+use Rattle.channel.specs.Outcome.{numberIn}
+use Rattle.channel.specs.Table.{most, empty, added, fresh}
+use Rattle.channel.specs.Hearing.{place, linkOf}
+use Rattle.channel.specs.Frame.{advanced}
+use Rattle.channel.specs.Verbs.{did}
+use Rattle.channel.specs.Advance.{advancedBy}
+use Rattle.channel.specs.Calls.{Call, verb, advance, advanceTo, outcomeOf, sliceOf, callNumber, callChannel, channelAfter}
+use Rattle.traces.specs.Settling.{Settled}
+use Rattle.traces.proofs.Laws.{on, clash}
+use Rattle.settling.specs.Demand.{withServers, tableOf, isVerb, verbsRefused, settlingTime, Led, Settles, DemandThree}
+use Rattle.settling.proofs.Sound.{Sound, AllWhole}
+use Rattle.settling.proofs.Run.{runs, traceOf, frame-run, rank-run}
+use Rattle.settling.proofs.Instance.{channel-settles}
+use Rattle.settling.proofs.Made.{Neat, neat-empty, neat-added, sound-fresh}
+use Rattle.settling.proofs.Reached.{handed, sound-after}
+use Rattle.settling.proofs.Links.{links-after}
+
+-- ---- calls that only count frames
+
+runs-more : (m n : ℕ) (c : Channel) → runs m (runs n c) ≡ runs (m + n) c
+unfolding runs
+runs-more zero n c = ap (λ (k : ℕ). runs k c) (let e : n ≡ 0 + n = omega arith in e)
+runs-more (suc m) n c = ap advanced (runs-more m n c) ∙ ap (λ (k : ℕ). runs k c) (let e : suc (m + n) ≡ suc m + n = omega arith in e)
+
+-- to advance by n is to run n frames
+pub by-runs : (n : ℕ) (c : Channel) → advancedBy n c ≡ runs n c
+unfolding advancedBy runs
+by-runs zero c = refl
+by-runs (suc n) c = by-runs n (advanced c) ∙ runs-more n 1 c ∙ ap (λ (k : ℕ). runs k c) (let e : n + 1 ≡ suc n = omega arith in e)
+
+accepted-verb : (c : Channel) (k : Call) → numberIn (outcomeOf c k) (length (sliceOf k)) ≡ 0 → eqb (callNumber c k) 0 ≡ true
+unfolding callNumber
+accepted-verb c k z = eq-eqb (numberIn (outcomeOf c k) (length (sliceOf k))) 0 z
+
+-- the frames that a call counts, if it is no accepted verb
+one-call : (c : Channel) (k : Call) → choose (isVerb k) (not (eqb (callNumber c k) 0)) true ≡ true → (m : ℕ) × (callChannel c k ≡ runs m c)
+unfolding runs
+one-call c k e = on (handed c k) (λ r. taken k e (r .0) (r .1)) (λ r. (0, r .1))
+  where
+    taken :
+        (k : Call) → choose (isVerb k) (not (eqb (callNumber c k) 0)) true ≡ true → numberIn (outcomeOf c k) (length (sliceOf k)) ≡ 0 →
+        callChannel c k ≡ outcomeOf c k .channel → (m : ℕ) × (callChannel c k ≡ runs m c)
+    taken (verb v a b d) f z h = absurd (clash (sym (chosen true refl) ∙ f) (ap not (accepted-verb c (verb v a b d) z)))
+    taken (advance d) f z h = (1, h)
+    taken (advanceTo t d) f z h = (t - c .frame, h ∙ by-runs (t - c .frame) c)
+
+pub frames-only : (c : Channel) (ls : List Call) → verbsRefused c ls ≡ true → (m : ℕ) × (channelAfter c ls ≡ runs m c)
+unfolding channelAfter verbsRefused runs
+frames-only c [] e = (0, refl)
+frames-only c (k ∷ ls) e =
+    let a = one-call c k (fst-true (choose (isVerb k) (not (eqb (callNumber c k) 0)) true) (verbsRefused (callChannel c k) ls) e) in
+    let b = frames-only (callChannel c k) ls (snd-true (choose (isVerb k) (not (eqb (callNumber c k) 0)) true) (verbsRefused (callChannel c k) ls) e) in
+    (b .0 + a .0, b .1 ∙ ap (runs (b .0)) (a .1) ∙ runs-more (b .0) (a .0) c)
+
+-- ---- tables and periods
+
+neat-with : (t : Table) (rs : List Rank) → Neat t → Neat (withServers t rs)
+unfolding withServers
+neat-with t [] n = n
+neat-with t (r ∷ rs) n = neat-with (added t (r .identity) (r .priority)) rs (neat-added t (r .identity) (r .priority) n)
+
+period-by : (n : ℕ) (c : Channel) → advancedBy n c .period ≡ c .period
+unfolding advancedBy advanced
+period-by zero c = refl
+period-by (suc n) c = period-by n (advanced c)
+
+period-outcome : (c : Channel) (k : Call) → outcomeOf c k .channel .period ≡ c .period
+unfolding did advanced
+period-outcome c (verb v a b d) = refl
+period-outcome c (advance d) = refl
+period-outcome c (advanceTo t d) = period-by (t - c .frame) c
+
+period-after : (c : Channel) (ks : List Call) → channelAfter c ks .period ≡ c .period
+unfolding channelAfter
+period-after c [] = refl
+period-after c (k ∷ ks) =
+    period-after (callChannel c k) ks
+    ∙ on (handed c k) (λ r. ap (λ (d : Channel). d .period) (r .1) ∙ period-outcome c k) (λ r. ap (λ (d : Channel). d .period) (r .1))
+
+-- ---- the theorem
+
+-- of a sound channel whose links are whole
+module _ (n : ℕ) (c : Channel) (sound : Sound c) (links : AllWhole c) (same : c .period .frames ≡ n) where
+  settled : Settled (silenceLimit (c .period)) (prospectLimit (c .period)) (traceOf c) → Settles (settlingTime n) c
+  unfolding runs
+  settled s =
+      record {
+        server = s .chief;
+        known = s .known;
+        was = s .active;
+        led = λ ls e late.
+            let r = frames-only c ls e in
+            let m = r .0 in
+            let g : channelAfter c ls .frame ≡ c .frame + m = ap (λ (d : Channel). d .frame) (r .1) ∙ frame-run c sound links m in
+            let l = s .led m (omega (arith, same, g, late)) in
+            subst (Led c (s .chief)) (sym (r .1))
+            (record {
+              primary = l .leads;
+              alone = l .alone;
+              backups = l .follow;
+              identities = λ i h. ap (λ (x : Rank). x .identity) (rank-run c sound links m i h);
+            });
+        highest = s .highest;
+      }
+
+pub settles : DemandThree
+settles n rs ks ok uncut i l a =
+    settled n c sound links (ap (λ (p : Period). p .frames) (period-after first ks)) (channel-settles c sound links i l a)
+  where
+    first : Channel
+    first = fresh (tableOf rs) n
+
+    c : Channel
+    c = channelAfter first ks
+
+    begun : Sound first
+    begun = sound-fresh (tableOf rs) n (neat-with empty rs neat-empty) ok
+
+    sound : Sound c
+    sound = sound-after first ks begun
+
+    links : AllWhole c
+    links i j li lj =
+        links-after first ks begun i j li lj false (getD-replicate (most * most) (linkOf i j) true false (omega arith))
+        ∙ ap not (uncut (place first i .identity) (place first j .identity))

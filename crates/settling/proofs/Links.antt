@@ -1,0 +1,216 @@
+-- What the channel's links say is what the last accepted cut or mend of each says. Assumes nothing.
+use mathlib.Core.Bool.{Bool, true, false, not, _&&_}
+use mathlib.Core.Path.{_≡_, refl, sym, ap, _∙_}
+use mathlib.Core.List.{List, [], _∷_}
+use Prim.Native.Nat.{ℕ, zero, suc, _-_, _<_}
+use native.Mathlib.Omega.{arith}
+use borrow.Author.Tests.{eq-eqb, ne-eqb, eqb-false, ltb-true}
+use lib.Dec.{eqb}
+use lib.ListN.{length, getD, set}
+use Rattle.lists.specs.Choice.{choose}
+use Rattle.lists.specs.Lists.{indexWhere}
+use Rattle.lists.proofs.Cases.{tested, equal, chosen, other, and-true, and-left, and-right, fst-true, snd-true}
+use Rattle.server.specs.declared.Verb.{Verb}
+use Rattle.server.specs.declared.Verb.the-variants.{Start, Ready, Unready, Pass, Crash, Restart, Cut, Mend}
+use Rattle.server.specs.declared.Server.{Server}
+use Rattle.server.specs.Server.{absent}
+use Rattle.server.specs.Verbs.{paired}
+use Rattle.channel.specs.declared.Channel.{Channel}
+use Rattle.channel.specs.Outcome.{numberIn}
+use Rattle.channel.specs.Table.{most, named, placeIn}
+use Rattle.channel.specs.Hearing.{place, linkOf, whole}
+use Rattle.channel.specs.Frame.{advanced}
+use Rattle.channel.specs.Verbs.{placeOf, inTable, namesNobody, known, stateRefusal, verbRefusal, did}
+use Rattle.channel.specs.Advance.{advancedBy}
+use Rattle.channel.specs.Calls.{Call, verb, advance, advanceTo, outcomeOf, sliceOf, callNumber, callChannel, channelAfter}
+use Rattle.traces.proofs.Laws.{on}
+use Rattle.settling.specs.Links.{cutByVerb, cutByCall, cutAfter}
+use Rattle.settling.proofs.Sound.{Sound, sound-advanced, identity-kept}
+use Rattle.settling.proofs.Made.{no-refusal, or-false}
+use Rattle.settling.proofs.Reached.{set-cases, handed, identity-did, sound-call}
+
+set-here : {A : Type 0} (l : List A) (i : ℕ) (x d : A) → i < length l → getD (set l i x) i d ≡ x
+set-here [] i x d h = absurd (omega arith)
+set-here (y ∷ l) zero x d h = refl
+set-here (y ∷ l) (suc i) x d h = set-here l i x d (omega arith)
+
+set-there : {A : Type 0} (l : List A) (i : ℕ) (x : A) (j : ℕ) (d : A) → (i ≡ j → ⊥) → getD (set l i x) j d ≡ getD l j d
+set-there l i x j d h = on (set-cases l i x j d) (λ e. e) (λ r. absurd (h (r .0)))
+
+-- an identity that is found stands at its place
+found-there : (i : ℕ) (l : List Server) → indexWhere (named i) l < length l → getD l (indexWhere (named i) l) absent .identity ≡ i
+found-there i [] h = absurd (omega arith)
+found-there i (s ∷ l) h =
+    on (equal (s .identity) i)
+    (λ e.
+    let z = chosen {t = named i s} {a = 0} (suc (indexWhere (named i) l)) (eq-eqb (s .identity) i e) in
+    ap (λ (k : ℕ). getD (s ∷ l) k absent .identity) z ∙ e)
+    (λ e.
+    let z = other {t = named i s} {b = suc (indexWhere (named i) l)} 0 (ne-eqb (s .identity) i e) in
+    ap (λ (k : ℕ). getD (s ∷ l) k absent .identity) z ∙ found-there i l (omega (arith, z, h)))
+
+module _ (c : Channel) (sound : Sound c) where
+  in-place : (x : ℕ) → inTable c x ≡ true → (placeOf c x < 16) × (place c (placeOf c x) .identity ≡ x)
+  unfolding placeIn
+  in-place x e =
+      let l = ltb-true (indexWhere (named x) (c .servers)) most e in
+      let g = sound .long in
+      (l, found-there x (c .servers) (omega arith))
+
+  -- the place of an identity is the only one that has it
+  only-place : (x i : ℕ) → (x ≡ 0 → ⊥) → inTable c x ≡ true → i < 16 → (placeOf c x ≡ i → ⊥) → place c i .identity ≡ x → ⊥
+  only-place x i z e l d q =
+      let h = in-place x e in
+      sound .apart i (placeOf c x) l (h .0) (λ r. d (sym r)) (λ r. z (sym q ∙ r)) (q ∙ sym (h .1))
+
+  -- ---- an accepted verb of two identities
+
+  module _ (x y i j : ℕ) (v : Bool) (x-some : x ≡ 0 → ⊥) (y-some : y ≡ 0 → ⊥) (x-in : inTable c x ≡ true) (y-in : inTable c y ≡ true) (li : i < 16) (lj : j < 16) where
+    abbrev k : ℕ
+    k = linkOf (placeOf c x) (placeOf c y)
+
+    is-link : (place c i .identity ≡ x) → (place c j .identity ≡ y) → k ≡ linkOf i j
+    is-link e f =
+        on (equal (placeOf c x) i)
+        (λ p.
+        on (equal (placeOf c y) j)
+        (λ q. omega (arith, p, q))
+        (λ q. absurd (only-place y j y-some y-in lj q f)))
+        (λ p. absurd (only-place x i x-some x-in li p e))
+
+    link-is : k ≡ linkOf i j → (place c i .identity ≡ x) × (place c j .identity ≡ y)
+    link-is e =
+        let a = in-place x x-in in
+        let b = in-place y y-in in
+        let la = a .0 in
+        let lb = b .0 in
+        let p : placeOf c x ≡ i = omega (arith, e, la, lb, li, lj) in
+        let q : placeOf c y ≡ j = omega (arith, e, la, lb, li, lj) in
+        (sym (ap (λ (n : ℕ). place c n .identity) p) ∙ a .1, sym (ap (λ (n : ℕ). place c n .identity) q) ∙ b .1)
+
+    -- the links say afterwards what the verb says of this one
+    linked-as : (was : Bool) → whole c i j ≡ not was → getD (set (c .whole) k (not v)) (linkOf i j) false ≡ not (choose (eqb x (place c i .identity) && eqb y (place c j .identity)) v was)
+    linked-as was w =
+        on (equal k (linkOf i j))
+        (λ e.
+        let r = link-is e in
+        let g = sound .linked in
+        ap (λ (n : ℕ). getD (set (c .whole) k (not v)) n false) (sym e)
+        ∙ set-here (c .whole) k (not v) false (omega (arith, e, g, li, lj))
+        ∙ ap not (sym (chosen was (and-true (eq-eqb x (place c i .identity) (sym (r .0))) (eq-eqb y (place c j .identity) (sym (r .1)))))))
+        (λ e.
+        set-there (c .whole) k (not v) (linkOf i j) false e
+        ∙ w
+        ∙ ap not (sym (other v (unlike e))))
+      where
+        unlike : (k ≡ linkOf i j → ⊥) → (eqb x (place c i .identity) && eqb y (place c j .identity)) ≡ false
+        unlike e =
+            on (equal x (place c i .identity))
+            (λ p.
+            on (equal y (place c j .identity))
+            (λ q. absurd (e (is-link (sym p) (sym q))))
+            (λ q. and-right (eqb x (place c i .identity)) (ne-eqb y (place c j .identity) q)))
+            (λ p. and-left (eqb y (place c j .identity)) (ne-eqb x (place c i .identity) p))
+
+  -- ---- a call
+
+  -- a call that gets 0 otherwise gets it from its outcome
+  got-0 : (k : Call) → callNumber c k ≡ 0 → outcomeOf c k .number ≡ 0
+  unfolding callNumber numberIn
+  got-0 k e =
+      on (equal (outcomeOf c k .number) 0)
+      (λ z. z)
+      (λ z. sym (other {b = outcomeOf c k .number} _ (ne-eqb (outcomeOf c k .number) 0 z)) ∙ e)
+
+  -- an accepted verb of two identities names two of the table
+  named-two : (v : Verb) (x y : ℕ) → paired v ≡ true → verbRefusal c v x y ≡ 0 → (x ≡ 0 → ⊥) × (y ≡ 0 → ⊥) × (inTable c x ≡ true) × (inTable c y ≡ true)
+  unfolding verbRefusal namesNobody known
+  named-two v x y two e =
+      let a = no-refusal (namesNobody v x y) 2 _ (λ z. omega arith) e in
+      let b = or-false (eqb x 0) (paired v && eqb y 0) (a .0) in
+      let yz : eqb y 0 ≡ false = sym (ap (λ (t : Bool). t && eqb y 0) two) ∙ b .1 in
+      let kn = is-known (a .1) in
+      let both = snd-true (inTable c x) (choose (paired v) (inTable c y && not (eqb x y)) true) kn in
+      let pair = sym (chosen true two) ∙ both in
+      (eqb-false x 0 (b .0), eqb-false y 0 yz, fst-true (inTable c x) _ kn, fst-true (inTable c y) (not (eqb x y)) pair)
+    where
+      is-known : choose (known c v x y) (stateRefusal c v x y) 8 ≡ 0 → known c v x y ≡ true
+      is-known q =
+          on (tested (known c v x y))
+          (λ t. t)
+          (λ t. absurd (let z = sym (other {b = 8} (stateRefusal c v x y) t) ∙ q in omega (arith, z)))
+
+  module _ (i j : ℕ) (li : i < 16) (lj : j < 16) (was : Bool) (w : whole c i j ≡ not was) where
+    abbrev a : ℕ
+    a = place c i .identity
+
+    abbrev b : ℕ
+    b = place c j .identity
+
+    unchanged : (t : Bool) → choose t was was ≡ was
+    unchanged t = on (tested t) (λ e. chosen was e) (λ e. other was e)
+
+    cut-verb : (v : Verb) (x y : ℕ) → verbRefusal c v x y ≡ 0 → whole (did c v x y) i j ≡ not (choose (eqb x a && eqb y b) (cutByVerb v was) was)
+    unfolding did
+    cut-verb Start x y e = w ∙ ap not (sym (unchanged (eqb x a && eqb y b)))
+    cut-verb Ready x y e = w ∙ ap not (sym (unchanged (eqb x a && eqb y b)))
+    cut-verb Unready x y e = w ∙ ap not (sym (unchanged (eqb x a && eqb y b)))
+    cut-verb Pass x y e = w ∙ ap not (sym (unchanged (eqb x a && eqb y b)))
+    cut-verb Crash x y e = w ∙ ap not (sym (unchanged (eqb x a && eqb y b)))
+    cut-verb Restart x y e = w ∙ ap not (sym (unchanged (eqb x a && eqb y b)))
+    cut-verb Cut x y e = let n = named-two Cut x y refl e in linked-as x y i j true (n .0) (n .1) (n .2) (n .3) li lj was w
+    cut-verb Mend x y e = let n = named-two Mend x y refl e in linked-as x y i j false (n .0) (n .1) (n .2) (n .3) li lj was w
+
+    whole-by : (n : ℕ) (d : Channel) → advancedBy n d .whole ≡ d .whole
+    unfolding advancedBy advanced
+    whole-by zero d = refl
+    whole-by (suc n) d = whole-by n (advanced d)
+
+    cut-outcome : (k : Call) → outcomeOf c k .number ≡ 0 → whole (outcomeOf c k .channel) i j ≡ not (cutByCall a b k was)
+    unfolding cutByCall advanced
+    cut-outcome (verb v x y d) e = cut-verb v x y e
+    cut-outcome (advance d) e = w
+    cut-outcome (advanceTo t d) e = ap (λ (l : List Bool). getD l (linkOf i j) false) (whole-by (t - c .frame) c) ∙ w
+
+    pub cut-call : (k : Call) → whole (callChannel c k) i j ≡ not (choose (eqb (callNumber c k) 0) (cutByCall a b k was) was)
+    unfolding callNumber
+    cut-call k =
+        let n = numberIn (outcomeOf c k) (length (sliceOf k)) in
+        on (handed c k)
+        (λ r.
+        ap (λ (d : Channel). whole d i j) (r .1)
+        ∙ cut-outcome k (got-0 k (r .0))
+        ∙ ap not (sym (chosen was (eq-eqb n 0 (r .0)))))
+        (λ r.
+        ap (λ (d : Channel). whole d i j) (r .1) ∙ w ∙ ap not (sym (other (cutByCall a b k was) (ne-eqb n 0 (r .0)))))
+
+-- ---- identities
+
+identity-by : (n : ℕ) (c : Channel) → Sound c → (i : ℕ) → i < 16 → place (advancedBy n c) i .identity ≡ place c i .identity
+unfolding advancedBy
+identity-by zero c s i l = refl
+identity-by (suc n) c s i l = identity-by n (advanced c) (sound-advanced c s) i l ∙ identity-kept c s i l
+
+identity-outcome : (c : Channel) (k : Call) → Sound c → (i : ℕ) → i < 16 → place (outcomeOf c k .channel) i .identity ≡ place c i .identity
+identity-outcome c (verb v a b d) s i l = identity-did c s v a b i l
+identity-outcome c (advance d) s i l = identity-kept c s i l
+identity-outcome c (advanceTo t d) s i l = identity-by (t - c .frame) c s i l
+
+pub identity-call : (c : Channel) (k : Call) → Sound c → (i : ℕ) → i < 16 → place (callChannel c k) i .identity ≡ place c i .identity
+identity-call c k s i l =
+    on (handed c k)
+    (λ r. ap (λ (d : Channel). place d i .identity) (r .1) ∙ identity-outcome c k s i l)
+    (λ r. ap (λ (d : Channel). place d i .identity) (r .1))
+
+-- after a list of calls
+pub links-after :
+    (c : Channel) (ks : List Call) → Sound c → (i j : ℕ) → i < 16 → j < 16 → (was : Bool) → whole c i j ≡ not was →
+    whole (channelAfter c ks) i j ≡ not (cutAfter (place c i .identity) (place c j .identity) c ks was)
+unfolding channelAfter cutAfter
+links-after c [] s i j li lj was w = w
+links-after c (k ∷ ks) s i j li lj was w =
+    let d = callChannel c k in
+    let now = choose (eqb (callNumber c k) 0) (cutByCall (place c i .identity) (place c j .identity) k was) was in
+    links-after d ks (sound-call c k s) i j li lj now (cut-call c s i j li lj was w k)
+    ∙ ap (λ (n : ℕ). not (cutAfter n (place d j .identity) d ks now)) (identity-call c k s i li)
+    ∙ ap (λ (n : ℕ). not (cutAfter (place c i .identity) n d ks now)) (identity-call c k s j lj)

@@ -1,0 +1,33 @@
+-- Places of a channel, frame by frame. Assumes nothing.
+use mathlib.Core.Path.{_≡_, refl, ap, _∙_}
+use mathlib.Core.List.{List, [], _∷_}
+use Prim.Native.Nat.{ℕ, zero, suc, _+_, _<_}
+use native.Mathlib.Omega.{arith}
+use lib.ListN.{length, getD}
+use Rattle.lists.specs.Lists.{mapFrom}
+use Rattle.server.specs.Server.{absent}
+use Rattle.channel.specs.declared.Channel.{Channel}
+use Rattle.channel.specs.Hearing.{place}
+use Rattle.channel.specs.Frame.{turned, advanced}
+
+-- an element of a mapped list
+map-at : {A : Type 0} (f : ℕ → A → A) (k : ℕ) (l : List A) (i : ℕ) (d : A) → i < length l → getD (mapFrom k f l) i d ≡ f (k + i) (getD l i d)
+map-at f k [] i d h = absurd (omega arith)
+map-at f k (x ∷ l) zero d h = ap (λ (n : ℕ). f n x) (let e : k ≡ k + 0 = omega arith in e)
+map-at f k (x ∷ l) (suc i) d h =
+    map-at f (suc k) l i d (omega arith) ∙ ap (λ (n : ℕ). f n (getD l i d)) (let e : suc k + i ≡ k + suc i = omega arith in e)
+
+pub length-mapped : {A : Type 0} (f : ℕ → A → A) (k : ℕ) (l : List A) → length (mapFrom k f l) ≡ length l
+length-mapped f k [] = refl
+length-mapped f k (x ∷ l) = ap suc (length-mapped f (suc k) l)
+
+-- a place after a frame
+pub place-advanced : (c : Channel) (i : ℕ) → i < length (c .servers) → place (advanced c) i ≡ turned c (c .frame + 1) i (place c i)
+unfolding advanced
+place-advanced c i h =
+    map-at (turned c (c .frame + 1)) 0 (c .servers) i absent h
+    ∙ ap (λ (n : ℕ). turned c (c .frame + 1) n (place c i)) (let e : 0 + i ≡ i = omega arith in e)
+
+pub long-advanced : (c : Channel) → length (advanced c .servers) ≡ length (c .servers)
+unfolding advanced
+long-advanced c = length-mapped (turned c (c .frame + 1)) 0 (c .servers)

@@ -1,0 +1,85 @@
+-- Demand 3, of "Lists of calls". The proof is `settles` of proofs/Demand.antt.
+use mathlib.Core.Bool.{Bool, true, false, not, _&&_}
+use mathlib.Core.Path.{_≡_}
+use mathlib.Core.Logic.{_⊎_, _≢_}
+use mathlib.Core.List.{List, [], _∷_}
+use Prim.Native.Nat.{ℕ, _+_, _*_, _<_, _≤_}
+use lib.Dec.{eqb}
+use Rattle.lists.specs.Choice.{choose}
+use Rattle.heartbeat.specs.declared.Rank.{Rank}
+use Rattle.server.specs.declared.Role.the-variants.{Backup, Primary}
+use Rattle.channel.specs.declared.Table.{Table}
+use Rattle.channel.specs.declared.Channel.{Channel}
+use Rattle.channel.specs.Table.{most, empty, added, freshRefusal, fresh}
+use Rattle.channel.specs.Hearing.{place, over}
+use Rattle.channel.specs.Frame.{advanced}
+use Rattle.channel.specs.Calls.{Call, verb, advance, advanceTo, callNumber, callChannel, channelAfter}
+use Rattle.traces.specs.Trace.{isActive, isBeating}
+use Rattle.settling.specs.Links.{NoLinkCut}
+
+-- "any table": servers added one after the other, in any order. One that is refused leaves the table as it was
+unfoldable pub withServers : Table → List Rank → Table
+withServers t [] = t
+withServers t (r ∷ rs) = withServers (added t (r .identity) (r .priority)) rs
+
+abbrev pub tableOf : List Rank → Table
+tableOf rs = withServers empty rs
+
+abbrev pub isVerb : Call → Bool
+isVerb (verb v a b d) = true
+isVerb (advance d) = false
+isVerb (advanceTo t d) = false
+
+-- "In the calls that follow it, made in the same way, each verb is refused, and an advance may be."
+unfoldable pub verbsRefused : Channel → List Call → Bool
+verbsRefused c [] = true
+verbsRefused c (k ∷ ks) = choose (isVerb k) (not (eqb (callNumber c k) 0)) true && verbsRefused (callChannel c k) ks
+
+-- "in backup, prospect or primary": the server of place i
+abbrev pub InThoseRoles : Channel → ℕ → Type 0
+InThoseRoles c i = isActive (place c i .role) ≡ true
+
+-- "none was prospect or primary"
+abbrev pub NoneBeats : Channel → Type 0
+NoneBeats c = (i : ℕ) → i < most → isBeating (place c i .role) ≡ false
+
+-- "it is the highest of them"
+abbrev pub HighestOfThem : Channel → ℕ → Type 0
+HighestOfThem c h = (i : ℕ) → i < most → InThoseRoles c i → (i ≡ h) ⊎ (over c h i ≡ true)
+
+-- "exactly one server is primary, .. and each other that was in one of those roles is in backup": c is the channel after the first
+-- list, d the one after the calls that follow, h the place of the one server. A place keeps its identity
+pub record Led (c : Channel) (h : ℕ) (d : Channel) : Type 0 where
+  pub primary : place d h .role ≡ Primary
+  pub alone : (i : ℕ) → i < most → place d i .role ≡ Primary → i ≡ h
+  pub backups : (i : ℕ) → i < most → i ≢ h → InThoseRoles c i → place d i .role ≡ Backup
+  pub identities : (i : ℕ) → i < most → place d i .identity ≡ place c i .identity
+
+-- "4 periods and 2 frames later"
+abbrev pub settlingTime : ℕ → ℕ
+settlingTime n = 4 * n + 2
+
+-- the channel c is settled w frames later: "ever after exactly one server is primary, always the same"
+pub record Settles (w : ℕ) (c : Channel) : Type 0 where
+  pub server : ℕ
+  pub known : server < most
+  pub was : InThoseRoles c server
+  pub led : (ls : List Call) → verbsRefused c ls ≡ true → c .frame + w ≤ channelAfter c ls .frame → Led c server (channelAfter c ls)
+  -- "if none was prospect or primary one frame after the list, it is the highest of them"
+  pub highest : NoneBeats (advanced c) → HighestOfThem c server
+
+-- "After any list of calls from a fresh channel, refused ones included: with no link cut, some server in backup, prospect or
+-- primary": a channel with the period n is settled w frames later
+abbrev pub SettlesIn : ℕ → ℕ → Type 0
+SettlesIn n w =
+    (rs : List Rank) (ks : List Call) → freshRefusal (tableOf rs) n ≡ 0 → NoLinkCut (fresh (tableOf rs) n) ks →
+    (i : ℕ) → i < most → InThoseRoles (channelAfter (fresh (tableOf rs) n) ks) i → Settles w (channelAfter (fresh (tableOf rs) n) ks)
+
+-- demand 3, for every period
+abbrev pub DemandThree : Type 0
+DemandThree = (n : ℕ) → SettlesIn n (settlingTime n)
+
+-- what is said of the frames that a channel with the period n takes to settle
+pub record SettlingFrames (n w : ℕ) : Type 0 where
+  pub number : w ≡ settlingTime n
+  pub settles : SettlesIn n w

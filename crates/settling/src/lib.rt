@@ -1,0 +1,10 @@
+// A channel settles: demand 3, of the definitions of the group. The theorem stands in the contract of the figure.
+use server::Period;
+ghost use Rattle.settling.specs.Demand.{SettlingFrames};
+
+// The frames after which a channel with this period has one primary, and ever after the same: 4 periods and 2 frames.
+pub fn settling_frames(period: Period) -> u32
+    ensures { λ r. ⌜ SettlingFrames (period .frames) r ⌝ }
+{
+    period.silence_limit() + period.prospect_limit() + 2
+}
