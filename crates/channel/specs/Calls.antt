@@ -9,7 +9,8 @@ use Rattle.channel.specs.Verbs.{verbOutcome}
 use Rattle.channel.specs.Advance.{stepOutcome, timeOutcome}
 
 -- "The calls may have any identities, .. any times and any lent slice": a verb with its identities (the second is not looked at
--- where the verb has one only), the advance by one frame, the advance to a time; the last argument is the lent slice
+-- where the verb has one only), the advance by one frame, the advance to a time; the last argument is the lent slice.
+-- Identities have no upper limit here: that is the type's
 pub data Call : Type 0 where
   verb : Verb → ℕ → ℕ → List ℕ → Call
   advance : List ℕ → Call

@@ -103,7 +103,7 @@ abbrev pub passOf : Server → Heartbeat
 passOf s = record { bs = s .pass; priority = s .priority; tiebreaker = s .identity; reveal = 0 }
 
 -- "one sender's heartbeats in the order sent": its plain beats, its reveal, its pass. A server of a channel that calls reach sends in no other
--- order and no more. Of one that hears heartbeats in an order that no channel gives them, what it sent is left free
+-- order and no more (`SentInOrder` of the crate settling). Of one that hears heartbeats in an order that no channel gives them, what it sent is left free
 unfoldable pub sentBy : Server → List Heartbeat
 sentBy s = replicate (s .beats) (plainOf s) ++ (choose (s .reveal) (revealOf s ∷ []) [] ++ choose (eqb (s .pass) 0) [] (passOf s ∷ []))
 

@@ -3,7 +3,7 @@
 use mathlib.Core.Bool.{true, false, not}
 use mathlib.Core.Path.{_≡_, refl, sym, ap, subst, _∙_}
 use mathlib.Core.List.{List, [], _∷_}
-use Prim.Native.Nat.{ℕ, zero, suc, _+_, _-_, _*_}
+use Prim.Native.Nat.{ℕ, zero, suc, _+_, _-_, _*_, _≤_}
 use native.Mathlib.Omega.{arith}
 use borrow.Author.Tests.{eq-eqb}
 use lib.Dec.{eqb}
@@ -71,7 +71,7 @@ frames-only c (k ∷ ls) e =
 
 -- ---- tables and periods
 
-neat-with : (t : Table) (rs : List Rank) → Neat t → Neat (withServers t rs)
+pub neat-with : (t : Table) (rs : List Rank) → Neat t → Neat (withServers t rs)
 unfolding withServers
 neat-with t [] n = n
 neat-with t (r ∷ rs) n = neat-with (added t (r .identity) (r .priority)) rs (neat-added t (r .identity) (r .priority) n)
@@ -98,6 +98,14 @@ period-after c (k ∷ ks) =
 
 -- of a sound channel whose links are whole
 module _ (n : ℕ) (c : Channel) (sound : Sound c) (links : AllWhole c) (same : c .period .frames ≡ n) where
+  -- m frames on, if they are enough
+  led-at :
+      (s : Settled (silenceLimit (c .period)) (prospectLimit (c .period)) (traceOf c)) (m : ℕ) → settlingTime n ≤ m → Led c (s .chief) (runs m c)
+  unfolding runs
+  led-at s m late =
+      let l = s .led m (omega (arith, same, late)) in
+      record { primary = l .leads; alone = l .alone; backups = l .follow; ranks = rank-run c sound links m }
+
   settled : Settled (silenceLimit (c .period)) (prospectLimit (c .period)) (traceOf c) → Settles (settlingTime n) c
   unfolding runs
   settled s =
@@ -107,16 +115,9 @@ module _ (n : ℕ) (c : Channel) (sound : Sound c) (links : AllWhole c) (same : 
         was = s .active;
         led = λ ls e late.
             let r = frames-only c ls e in
-            let m = r .0 in
-            let g : channelAfter c ls .frame ≡ c .frame + m = ap (λ (d : Channel). d .frame) (r .1) ∙ frame-run c sound links m in
-            let l = s .led m (omega (arith, same, g, late)) in
-            subst (Led c (s .chief)) (sym (r .1))
-            (record {
-              primary = l .leads;
-              alone = l .alone;
-              backups = l .follow;
-              identities = λ i h. ap (λ (x : Rank). x .identity) (rank-run c sound links m i h);
-            });
+            let g : channelAfter c ls .frame ≡ c .frame + r .0 = ap (λ (d : Channel). d .frame) (r .1) ∙ frame-run c sound links (r .0) in
+            subst (Led c (s .chief)) (sym (r .1)) (led-at s (r .0) (omega (arith, g, late)));
+        within = λ k late. subst (Led c (s .chief)) (sym (by-runs k c)) (led-at s k late);
         highest = s .highest;
       }
 

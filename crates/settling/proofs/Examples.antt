@@ -1,49 +1,151 @@
 -- The lists of calls of specs/Examples.antt, computed. Assumes nothing.
-use mathlib.Core.Bool.{Bool, true, _&&_}
-use mathlib.Core.Path.{_≡_, refl}
-use mathlib.Core.List.{[], _∷_}
+use mathlib.Core.Bool.{Bool, true, false, not, _&&_}
+use mathlib.Core.Path.{_≡_, refl, sym, ap, _∙_}
+use mathlib.Core.List.{List, [], _∷_}
 use Prim.Native.Nat.{ℕ}
-use borrow.Author.Tests.{eqb-true}
+use borrow.Author.Tests.{eqb-true, not-true}
 use lib.Dec.{eqb}
 use Rattle.lists.specs.Choice.{choose}
 use Rattle.lists.specs.Lists.{same}
-use Rattle.lists.proofs.Cases.{fst-true, snd-true}
+use Rattle.lists.proofs.Cases.{tested, other, fst-true, snd-true}
 use Rattle.lists.proofs.SameLoop.{same-equal}
 use Rattle.text.specs.Digits.{digits}
 use Rattle.timecode.specs.Label.{label}
 use Rattle.heartbeat.specs.Rank.{higher}
+use Rattle.server.specs.declared.Verb.the-variants.{Start, Ready, Unready, Pass, Crash, Restart, Cut, Mend}
+use Rattle.server.specs.Period.{takePeriod}
 use Rattle.server.specs.Server.{oneMore, sentBy, sentAny, after}
 use Rattle.server.specs.Hearing.{forThis, backupHears, prospectHears, primaryHears}
 use Rattle.server.specs.Timers.{afterSilent, afterBeating, afterRising}
 use Rattle.server.specs.Verbs.{from, enters, entering, verbHappens, verbAnswer}
+use Rattle.channel.specs.declared.Channel.{Channel}
 use Rattle.channel.specs.Outcome.{numberIn, channelIn}
-use Rattle.channel.specs.Table.{placeIn, standsBefore, enter, addRefusal, added}
+use Rattle.channel.specs.Table.{placeIn, standsBefore, enter, addRefusal, added, freshRefusal}
 use Rattle.channel.specs.Lines.{line, linesOf}
 use Rattle.channel.specs.Hearing.{hearsFrom, comes, nextAmong, nextSender, sendersAfter, sentByAll, inbox}
 use Rattle.channel.specs.Frame.{heardAll, heardLines, timedLines, hearing, turned, turnLines, turnsLines, advanced, frameLines}
 use Rattle.channel.specs.Verbs.{namesNobody, known, stateRefusal, verbRefusal, did}
 use Rattle.channel.specs.Advance.{advancedBy, linesBy, timeRefusal}
-use Rattle.channel.specs.Calls.{advanceTo, callChannel, channelAfter}
-use Rattle.settling.specs.Demand.{withServers}
-use Rattle.settling.specs.Examples.{rolesOf, lent, afterSlowest, NeedsAll}
+use Rattle.channel.specs.Calls.{Call, verb, advance, advanceTo, callNumber, callChannel, channelAfter}
+use Rattle.traces.proofs.Laws.{on}
+use Rattle.settling.specs.Links.{cutByCall, cutAfter, NoLinkCut}
+use Rattle.settling.specs.Demand.{withServers, tableOf}
+use Rattle.settling.specs.Examples.{three, rolesOf, lent, allReady, lowerBeats, slowest, passing, twoPrimaries, start, Example, Examples}
 
--- what is said of the slowest group, as a test
-slow : Bool
-slow =
-    eqb (afterSlowest .frame) 12
-    && (same (rolesOf (channelAfter afterSlowest (advanceTo 25 lent ∷ []))) (3 ∷ 3 ∷ 4 ∷ [])
-    && same (rolesOf (channelAfter afterSlowest (advanceTo 26 lent ∷ []))) (3 ∷ 3 ∷ 5 ∷ []))
+-- ---- links that a list does not touch stay as they were
 
-computed : slow ≡ true
-unfolding slow choose same digits label higher oneMore sentBy sentAny after forThis backupHears prospectHears primaryHears afterSilent afterBeating afterRising from enters entering verbHappens verbAnswer numberIn channelIn placeIn standsBefore enter addRefusal added line linesOf hearsFrom comes nextAmong nextSender sendersAfter sentByAll inbox heardAll heardLines timedLines hearing turned turnLines turnsLines advanced frameLines namesNobody known stateRefusal verbRefusal did advancedBy linesBy timeRefusal callChannel channelAfter withServers
+touches : ℕ → ℕ → Call → Bool
+touches a b (verb Start x y d) = false
+touches a b (verb Ready x y d) = false
+touches a b (verb Unready x y d) = false
+touches a b (verb Pass x y d) = false
+touches a b (verb Crash x y d) = false
+touches a b (verb Restart x y d) = false
+touches a b (verb Cut x y d) = eqb x a && eqb y b
+touches a b (verb Mend x y d) = eqb x a && eqb y b
+touches a b (advance d) = false
+touches a b (advanceTo t d) = false
+
+same-either : (t was : Bool) → choose t was was ≡ was
+unfolding choose
+same-either true was = refl
+same-either false was = refl
+
+untouched-one : (a b : ℕ) (k : Call) (was : Bool) → touches a b k ≡ false → cutByCall a b k was ≡ was
+unfolding touches cutByCall
+untouched-one a b (verb Start x y d) was e = same-either (eqb x a && eqb y b) was
+untouched-one a b (verb Ready x y d) was e = same-either (eqb x a && eqb y b) was
+untouched-one a b (verb Unready x y d) was e = same-either (eqb x a && eqb y b) was
+untouched-one a b (verb Pass x y d) was e = same-either (eqb x a && eqb y b) was
+untouched-one a b (verb Crash x y d) was e = same-either (eqb x a && eqb y b) was
+untouched-one a b (verb Restart x y d) was e = same-either (eqb x a && eqb y b) was
+untouched-one a b (verb Cut x y d) was e = other true e
+untouched-one a b (verb Mend x y d) was e = other false e
+untouched-one a b (advance d) was e = refl
+untouched-one a b (advanceTo t d) was e = refl
+
+-- none of the list touches the link
+data Untouched (a b : ℕ) : List Call → Type 0 where
+  none : Untouched a b []
+  more : {k : Call} {ks : List Call} → touches a b k ≡ false → Untouched a b ks → Untouched a b (k ∷ ks)
+
+untouched : (a b : ℕ) (c : Channel) (ks : List Call) (was : Bool) → Untouched a b ks → cutAfter a b c ks was ≡ was
+unfolding cutAfter
+untouched a b c [] was none = refl
+untouched a b c (k ∷ ks) was (more e u) =
+    let d = callChannel c k in
+    let same : choose (eqb (callNumber c k) 0) (cutByCall a b k was) was ≡ was =
+    ap (λ (x : Bool). choose (eqb (callNumber c k) 0) x was) (untouched-one a b k was e) ∙ same-either (eqb (callNumber c k) 0) was in
+    ap (cutAfter a b d ks) same ∙ untouched a b d ks was u
+
+-- six calls that make the servers ready
+ready : {a b : ℕ} {ks : List Call} → Untouched a b ks → Untouched a b (allReady ks)
+unfolding touches
+ready u = more refl (more refl (more refl (more refl (more refl (more refl u)))))
+
+-- ---- what is said of the lists, as tests
+
+says : List Call → List ℕ → List ℕ → List ℕ → Bool
+says ks ended next settled =
+    eqb (channelAfter start ks .frame) 12
+    && (same (rolesOf (channelAfter start ks)) ended
+    && (same (rolesOf (advanced (channelAfter start ks))) next
+    && same (rolesOf (channelAfter (channelAfter start ks) (advanceTo 26 lent ∷ []))) settled))
+
+example : (ks : List Call) (ended next settled : List ℕ) → says ks ended next settled ≡ true → NoLinkCut start ks → Example ks ended next settled
+unfolding says
+example ks ended next settled e u =
+    let f = snd-true (eqb (channelAfter start ks .frame) 12) _ e in
+    let g = snd-true (same (rolesOf (channelAfter start ks)) ended) _ f in
+    record {
+      uncut = u;
+      ends = eqb-true _ _ (fst-true (eqb (channelAfter start ks .frame) 12) _ e);
+      roles = same-equal _ _ (fst-true _ _ f);
+      after = same-equal _ _ (fst-true _ _ g);
+      later = same-equal _ _ (snd-true (same (rolesOf (advanced (channelAfter start ks))) next) _ g);
+    }
+
+-- all of them, the one frame sooner, and the one link that two of them cut and mend
+computed :
+    (says lowerBeats (5 ∷ 3 ∷ 3 ∷ []) (5 ∷ 3 ∷ 3 ∷ []) (5 ∷ 3 ∷ 3 ∷ [])
+    && (says slowest (3 ∷ 5 ∷ 3 ∷ []) (3 ∷ 3 ∷ 3 ∷ []) (3 ∷ 3 ∷ 5 ∷ [])
+    && (says passing (3 ∷ 3 ∷ 3 ∷ []) (4 ∷ 3 ∷ 3 ∷ []) (5 ∷ 3 ∷ 3 ∷ [])
+    && (says twoPrimaries (3 ∷ 5 ∷ 5 ∷ []) (3 ∷ 3 ∷ 5 ∷ []) (3 ∷ 3 ∷ 5 ∷ [])
+    && (same (rolesOf (channelAfter (channelAfter start slowest) (advanceTo 25 lent ∷ []))) (3 ∷ 3 ∷ 4 ∷ [])
+    && (not (cutAfter 3 2 start slowest false) && not (cutAfter 3 2 start twoPrimaries false))))))) ≡ true
+unfolding says choose same digits label higher oneMore sentBy sentAny after forThis backupHears prospectHears primaryHears afterSilent afterBeating afterRising from enters entering verbHappens verbAnswer numberIn channelIn placeIn standsBefore enter addRefusal added line linesOf hearsFrom comes nextAmong nextSender sendersAfter sentByAll inbox heardAll heardLines timedLines hearing turned turnLines turnsLines advanced frameLines namesNobody known stateRefusal verbRefusal did advancedBy linesBy timeRefusal callChannel callNumber channelAfter withServers cutAfter cutByCall
 computed = refl
 
-pub needs-all : NeedsAll
-unfolding slow
-needs-all =
-    let e = snd-true (eqb (afterSlowest .frame) 12) _ computed in
+-- a list that cuts and mends the link from 3 to 2, and no other
+mended : (ks : List Call) → cutAfter 3 2 start ks false ≡ false → ((a b : ℕ) → (eqb 3 a && eqb 2 b) ≡ false → Untouched a b ks) → NoLinkCut start ks
+mended ks e u a b =
+    on (tested (eqb 3 a && eqb 2 b))
+    (λ t.
+    let x = eqb-true 3 a (fst-true (eqb 3 a) (eqb 2 b) t) in
+    let y = eqb-true 2 b (snd-true (eqb 3 a) (eqb 2 b) t) in
+    ap (λ (n : ℕ). cutAfter n b start ks false) (sym x) ∙ ap (λ (n : ℕ). cutAfter 3 n start ks false) (sym y) ∙ e)
+    (λ t. untouched a b start ks false (u a b t))
+
+taken : freshRefusal (tableOf three) 3 ≡ 0
+unfolding choose freshRefusal takePeriod placeIn standsBefore enter addRefusal added withServers
+taken = refl
+
+pub examples : Examples
+unfolding touches
+examples =
+    let c1 = snd-true (says lowerBeats (5 ∷ 3 ∷ 3 ∷ []) (5 ∷ 3 ∷ 3 ∷ []) (5 ∷ 3 ∷ 3 ∷ [])) _ computed in
+    let c2 = snd-true (says slowest (3 ∷ 5 ∷ 3 ∷ []) (3 ∷ 3 ∷ 3 ∷ []) (3 ∷ 3 ∷ 5 ∷ [])) _ c1 in
+    let c3 = snd-true (says passing (3 ∷ 3 ∷ 3 ∷ []) (4 ∷ 3 ∷ 3 ∷ []) (5 ∷ 3 ∷ 3 ∷ [])) _ c2 in
+    let c4 = snd-true (says twoPrimaries (3 ∷ 5 ∷ 5 ∷ []) (3 ∷ 3 ∷ 5 ∷ []) (3 ∷ 3 ∷ 5 ∷ [])) _ c3 in
+    let c5 = snd-true (same (rolesOf (channelAfter (channelAfter start slowest) (advanceTo 25 lent ∷ []))) (3 ∷ 3 ∷ 4 ∷ [])) _ c4 in
     record {
-      ends = eqb-true _ _ (fst-true (eqb (afterSlowest .frame) 12) _ computed);
-      before = same-equal _ _ (fst-true _ _ e);
-      then = same-equal _ _ (snd-true (same (rolesOf (channelAfter afterSlowest (advanceTo 25 lent ∷ []))) (3 ∷ 3 ∷ 4 ∷ [])) _ e);
+      table = taken;
+      lower-beats = example lowerBeats _ _ _ (fst-true _ _ computed)
+          (λ a b. untouched a b start lowerBeats false (more refl (more refl (more refl (more refl (more refl (more refl (more refl none))))))));
+      takes-all = example slowest _ _ _ (fst-true _ _ c1)
+          (mended slowest (not-true _ (fst-true _ _ c5)) (λ a b t. ready (more refl (more t (more refl (more refl (more t none)))))));
+      passes = example passing _ _ _ (fst-true _ _ c2) (λ a b. untouched a b start passing false (ready (more refl (more refl none))));
+      two-beat = example twoPrimaries _ _ _ (fst-true _ _ c3)
+          (mended twoPrimaries (not-true _ (snd-true (not (cutAfter 3 2 start slowest false)) _ c5)) (λ a b t. ready (more refl (more t (more refl (more t none))))));
+      needs-all = same-equal _ _ (fst-true _ _ c4);
     }

@@ -17,7 +17,7 @@ use Rattle.traces.specs.Settling.{Settled}
 use Rattle.traces.proofs.Laws.{on, clash}
 use Rattle.traces.proofs.Settle.{settles}
 use Rattle.settling.proofs.Sent.{reveal-any}
-use Rattle.settling.proofs.Counts.{count-mono}
+use Rattle.traces.proofs.Order.{count-le}
 use Rattle.settling.proofs.Young.{Young}
 use Rattle.settling.proofs.Sound.{Sound, seatedIn, AllWhole, nothing-sent, rests, active-kept, revealer}
 use Rattle.settling.proofs.Run.{runs, traceOf, sound-runs, period-run, no-pass-run}
@@ -47,7 +47,7 @@ module _ (c : Channel) (sound : Sound c) (links : AllWhole c) where
   limited : Limits (count (activeAt0 t) 16) (beatLimit p) (silenceLimit p) (prospectLimit p)
   limited =
       let m =
-      count-mono (activeAt0 t) (seatedIn c) 16
+      count-le (activeAt0 t) (seatedIn c) 16
       (λ i l a. ap not (ne-eqb (place c i .identity) 0 (sound .seated i l (sym (active-first i) ∙ a)))) in
       let f = sound .fits in
       record { period = sound .period; fits = omega arith; silence-limit = omega arith; prospect-limit = omega arith }

@@ -263,7 +263,7 @@ quiet-hearing t s beats f q = refl
 quiet-hearing t s reveals f q = refl
 quiet-hearing t s notes f q = absurd (clash q f)
 
-unrevealed : (s : Server) → RevealerBeats s → isBeating (s .role) ≡ false → s .reveal ≡ false
+pub unrevealed : (s : Server) → RevealerBeats s → isBeating (s .role) ≡ false → s .reveal ≡ false
 unrevealed s r b = on (tested (s .reveal)) (λ e. absurd (clash (r e) b)) (λ e. e)
 
 quiet-one : (t : ℕ) (s : Server) (h : Heartbeat) → RevealerBeats s → isBeating (s .role) ≡ false → RevealerBeats (heard t s h .server)

@@ -1,4 +1,3 @@
-pub mod Counts
 pub mod Places
 pub mod Next
 pub mod Senders
@@ -17,3 +16,6 @@ pub mod Made
 pub mod Links
 pub mod Demand
 pub mod Examples
+pub mod Few
+pub mod Ordered
+pub mod Sending

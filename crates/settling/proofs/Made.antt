@@ -307,6 +307,8 @@ module _ (t : Table) (n : ℕ) (neat : Neat t) (taken : freshRefusal t n ≡ 0) 
             };
         seated = λ i l a z. clash a (still (place (fresh t n) i) (new-at i));
         silent = λ i l z. quiet (place (fresh t n) i) (new-at i);
+        unpassed = λ i l b.
+            absurd (clash (ways.beating-active (place (fresh t n) i .role) b) (still (place (fresh t n) i) (new-at i)));
         apart = λ i j h l d z e.
             let g = neat .long in rising-apart (t .servers) (neat .rising) i j (omega arith) (omega arith) d z e;
         fits =

@@ -33,7 +33,7 @@ use Rattle.traces.specs.Trace.{isActive, isBeating}
 use Rattle.traces.proofs.Laws.{on, clash}
 use Rattle.traces.proofs.Ways as ways
 use Rattle.traces.specs.Facts.{count}
-use Rattle.settling.proofs.Counts.{count-mono}
+use Rattle.traces.proofs.Order.{count-le}
 use Rattle.settling.proofs.Young.{Young, YoungIn}
 use Rattle.settling.proofs.Kept.{rank-after}
 use Rattle.settling.proofs.Sound.{Sound, seatedIn, sound-advanced}
@@ -51,7 +51,7 @@ set-cases (y ∷ l) (suc i) x (suc j) d = on (set-cases l i x j d) (λ e. inl e)
 -- ---- verbs
 
 -- the events of verbs
-data IsEntered : Event → Type 0 where
+pub data IsEntered : Event → Type 0 where
   nothing : IsEntered Nothing
   backs : IsEntered ToBackup
   syncs : IsEntered ToSync
@@ -78,12 +78,12 @@ verb-entered Restart b k = entered k
 verb-entered Cut b k = nothing
 verb-entered Mend b k = nothing
 
-happens-entered : (v : Verb) (b : ℕ) (a : Answer) → IsEntered (verbHappens v b a)
+pub happens-entered : (v : Verb) (b : ℕ) (a : Answer) → IsEntered (verbHappens v b a)
 unfolding verbHappens
 happens-entered v b a = choice-entered (eqb (a .number) 0) (verb-entered v b (getD (a .values) 0 0)) nothing
 
 -- to an empty place nothing happens
-absent-still : (v : Verb) (b : ℕ) (s : Server) → s .identity ≡ 0 → verbHappens v b (verbAnswer v b s) ≡ Nothing
+pub absent-still : (v : Verb) (b : ℕ) (s : Server) → s .identity ≡ 0 → verbHappens v b (verbAnswer v b s) ≡ Nothing
 unfolding verbHappens verbAnswer
 absent-still v b s e =
     ap (λ (a : Answer). choose (eqb (a .number) 0) (verbEvent v b (getD (a .values) 0 0)) Nothing)
@@ -134,13 +134,26 @@ length-links Restart k l = refl
 length-links Cut k l = length-set l k false
 length-links Mend k l = length-set l k true
 
+-- whoever beats has not passed
+Unpassed : Server → Type 0
+Unpassed s = isBeating (s .role) ≡ true → s .pass ≡ 0
+
+unpassed-entered : (t : ℕ) (s : Server) {e : Event} → IsEntered e → Unpassed s → Unpassed (after t s e)
+unfolding after Unpassed isBeating
+unpassed-entered t s nothing u = u
+unpassed-entered t s backs u = λ b. absurd (clash b refl)
+unpassed-entered t s syncs u = λ b. absurd (clash b refl)
+unpassed-entered t s idles u = λ b. absurd (clash b refl)
+unpassed-entered t s downs u = λ b. absurd (clash b refl)
+unpassed-entered t s passes u = λ b. absurd (clash b refl)
+
 -- a place after a verb: as it was, or that of a server whose timers are young
 Moved : Period → ℕ → Server → Server → Type 0
-Moved p t s m = (m ≡ s) ⊎ ((s .identity ≡ 0 → ⊥) × (rankOf m ≡ rankOf s) × Young p t m)
+Moved p t s m = (m ≡ s) ⊎ ((s .identity ≡ 0 → ⊥) × (rankOf m ≡ rankOf s) × Young p t m × Unpassed m)
 
 module _ (c : Channel) (sound : Sound c) (v : Verb) (a b : ℕ) where
   moves : (i : ℕ) → i < 16 → Moved (c .period) (c .frame) (place c i) (place (did c v a b) i)
-  unfolding did Moved after
+  unfolding did Moved after Unpassed
   moves i l =
       on (set-cases (c .servers) (placeOf c a) (after (c .frame) (place c (placeOf c a)) (happens c v a b)) i absent)
       (λ e. inl e)
@@ -154,6 +167,7 @@ module _ (c : Channel) (sound : Sound c) (v : Verb) (a b : ℕ) where
         z,
         ap rankOf e ∙ rank-after (c .frame) (place c i) (verbHappens v b (verbAnswer v b (place c i))),
         subst (Young (c .period) (c .frame)) (sym e) (young-entered (place c i) (sound .period) (happens-entered v b (verbAnswer v b (place c i))) (sound .young i l)),
+        subst Unpassed (sym e) (unpassed-entered (c .frame) (place c i) (happens-entered v b (verbAnswer v b (place c i))) (sound .unpassed i l)),
       )))
 
   pub identity-did : (i : ℕ) → i < 16 → place (did c v a b) i .identity ≡ place c i .identity
@@ -161,7 +175,7 @@ module _ (c : Channel) (sound : Sound c) (v : Verb) (a b : ℕ) where
   identity-did i l = on (moves i l) (λ e. ap (λ (m : Server). m .identity) e) (λ r. ap (λ (x : Rank). x .identity) (r .1))
 
   pub sound-did : Sound (did c v a b)
-  unfolding Moved did
+  unfolding Moved did Unpassed
   sound-did =
       record {
         long = long;
@@ -176,6 +190,10 @@ module _ (c : Channel) (sound : Sound c) (v : Verb) (a b : ℕ) where
             on (moves i l)
             (λ q. ap sentAny q ∙ sound .silent i l (sym (identity-did i l) ∙ z))
             (λ q. absurd (q .0 (sym (identity-did i l) ∙ z)));
+        unpassed = λ i l f.
+            on (moves i l)
+            (λ q. ap (λ (m : Server). m .pass) q ∙ sound .unpassed i l (sym (ap (λ (m : Server). isBeating (m .role)) q) ∙ f))
+            (λ q. q .3 f);
         apart = λ i j h l d z e. sound .apart i j h l d (λ q. z (identity-did i h ∙ q)) (sym (identity-did i h) ∙ e ∙ identity-did j l);
         fits = fits;
       }
@@ -194,7 +212,7 @@ module _ (c : Channel) (sound : Sound c) (v : Verb) (a b : ℕ) where
 
       fits : count (seatedIn (did c v a b)) 16 ≤ did c v a b .period .frames
       fits =
-          let m = count-mono (seatedIn (did c v a b)) (seatedIn c) 16 (λ i h e. sym (ap (λ (x : ℕ). not (eqb x 0)) (identity-did i h)) ∙ e) in
+          let m = count-le (seatedIn (did c v a b)) (seatedIn c) 16 (λ i h e. sym (ap (λ (x : ℕ). not (eqb x 0)) (identity-did i h)) ∙ e) in
           let g = sound .fits in
           omega arith
 

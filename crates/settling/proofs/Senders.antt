@@ -26,7 +26,7 @@ module _ (c : Channel) (j : ℕ) (apart : Apart c j) where
   none-next n last h = rw (le-ltb (nextSender c j last) 16 h, sendersAfter)
 
   -- who is lower than one that comes after the last comes after the last
-  under-trans : (last a b : ℕ) → under c last a ≡ true → over c a b ≡ true → under c last b ≡ true
+  pub under-trans : (last a b : ℕ) → under c last a ≡ true → over c a b ≡ true → under c last b ≡ true
   under-trans last a b e f =
       on (less last 16)
       (λ h.

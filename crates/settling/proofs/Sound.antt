@@ -15,10 +15,10 @@ use Rattle.server.specs.Timers.{timed}
 use Rattle.channel.specs.declared.Channel.{Channel}
 use Rattle.channel.specs.Hearing.{place, whole, hearsFrom, inbox}
 use Rattle.channel.specs.Frame.{heardAll, hearing, turned, advanced}
-use Rattle.traces.specs.Trace.{isActive}
+use Rattle.traces.specs.Trace.{isActive, isBeating}
 use Rattle.traces.proofs.Laws.{on, clash}
 use Rattle.traces.specs.Facts.{count}
-use Rattle.settling.proofs.Counts.{count-mono}
+use Rattle.traces.proofs.Order.{count-le}
 use Rattle.settling.proofs.Places.{place-advanced, long-advanced}
 use Rattle.settling.proofs.Next.{Apart}
 use Rattle.settling.proofs.Inbox.{Falls, inbox-falls}
@@ -39,6 +39,8 @@ pub record Sound (c : Channel) : Type 0 where
   -- an empty place is not active and sends nothing
   pub seated : (i : ℕ) → i < 16 → isActive (place c i .role) ≡ true → place c i .identity ≡ 0 → ⊥
   pub silent : (i : ℕ) → i < 16 → place c i .identity ≡ 0 → sentAny (place c i) ≡ false
+  -- whoever beats has not passed in this frame
+  pub unpassed : (i : ℕ) → i < 16 → isBeating (place c i .role) ≡ true → place c i .pass ≡ 0
   -- no identity stands twice
   pub apart : (i j : ℕ) → i < 16 → j < 16 → (i ≡ j → ⊥) → (place c i .identity ≡ 0 → ⊥) → place c i .identity ≡ place c j .identity → ⊥
   -- the period has a frame for each server
@@ -142,10 +144,11 @@ module _ (c : Channel) (sound : Sound c) where
             on (tested (isActive (place c i .role)))
             (λ a. absurd (sound .seated i h a (sym (identity-kept i h) ∙ z)))
             (λ a. ap sentAny (rests i h a) ∙ nothing-sent (place c i));
+        unpassed = λ i h b. no-pass i h;
         apart = λ i j h l d z e. sound .apart i j h l d (λ q. z (identity-kept i h ∙ q)) (sym (identity-kept i h) ∙ e ∙ identity-kept j l);
         fits =
             let m =
-            count-mono (seatedIn (advanced c)) (seatedIn c) 16 (λ i h e. sym (ap (λ (x : ℕ). not (eqb x 0)) (identity-kept i h)) ∙ e) in
+            count-le (seatedIn (advanced c)) (seatedIn c) 16 (λ i h e. sym (ap (λ (x : ℕ). not (eqb x 0)) (identity-kept i h)) ∙ e) in
             let g = sound .fits in
             omega arith;
       }

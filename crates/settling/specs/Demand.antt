@@ -1,4 +1,4 @@
--- Demand 3, of "Lists of calls". The proof is `settles` of proofs/Demand.antt.
+-- Demand 3, as "Lists of calls" of document 01 reads it, of the definitions of the calls. The proof is `settles` of proofs/Demand.antt.
 use mathlib.Core.Bool.{Bool, true, false, not, _&&_}
 use mathlib.Core.Path.{_≡_}
 use mathlib.Core.Logic.{_⊎_, _≢_}
@@ -8,11 +8,13 @@ use lib.Dec.{eqb}
 use Rattle.lists.specs.Choice.{choose}
 use Rattle.heartbeat.specs.declared.Rank.{Rank}
 use Rattle.server.specs.declared.Role.the-variants.{Backup, Primary}
+use Rattle.server.specs.Server.{rankOf}
 use Rattle.channel.specs.declared.Table.{Table}
 use Rattle.channel.specs.declared.Channel.{Channel}
 use Rattle.channel.specs.Table.{most, empty, added, freshRefusal, fresh}
 use Rattle.channel.specs.Hearing.{place, over}
 use Rattle.channel.specs.Frame.{advanced}
+use Rattle.channel.specs.Advance.{advancedBy}
 use Rattle.channel.specs.Calls.{Call, verb, advance, advanceTo, callNumber, callChannel, channelAfter}
 use Rattle.traces.specs.Trace.{isActive, isBeating}
 use Rattle.settling.specs.Links.{NoLinkCut}
@@ -40,20 +42,20 @@ abbrev pub InThoseRoles : Channel → ℕ → Type 0
 InThoseRoles c i = isActive (place c i .role) ≡ true
 
 -- "none was prospect or primary"
-abbrev pub NoneBeats : Channel → Type 0
-NoneBeats c = (i : ℕ) → i < most → isBeating (place c i .role) ≡ false
+abbrev pub NoneProspectOrPrimary : Channel → Type 0
+NoneProspectOrPrimary c = (i : ℕ) → i < most → isBeating (place c i .role) ≡ false
 
 -- "it is the highest of them"
 abbrev pub HighestOfThem : Channel → ℕ → Type 0
 HighestOfThem c h = (i : ℕ) → i < most → InThoseRoles c i → (i ≡ h) ⊎ (over c h i ≡ true)
 
 -- "exactly one server is primary, .. and each other that was in one of those roles is in backup": c is the channel after the first
--- list, d the one after the calls that follow, h the place of the one server. A place keeps its identity
+-- list, d the one after the calls that follow, h the place of the one server. A place keeps its identity and its priority
 pub record Led (c : Channel) (h : ℕ) (d : Channel) : Type 0 where
   pub primary : place d h .role ≡ Primary
   pub alone : (i : ℕ) → i < most → place d i .role ≡ Primary → i ≡ h
   pub backups : (i : ℕ) → i < most → i ≢ h → InThoseRoles c i → place d i .role ≡ Backup
-  pub identities : (i : ℕ) → i < most → place d i .identity ≡ place c i .identity
+  pub ranks : (i : ℕ) → i < most → rankOf (place d i) ≡ rankOf (place c i)
 
 -- "4 periods and 2 frames later"
 abbrev pub settlingTime : ℕ → ℕ
@@ -65,8 +67,10 @@ pub record Settles (w : ℕ) (c : Channel) : Type 0 where
   pub known : server < most
   pub was : InThoseRoles c server
   pub led : (ls : List Call) → verbsRefused c ls ≡ true → c .frame + w ≤ channelAfter c ls .frame → Led c server (channelAfter c ls)
+  -- "an accepted one over several frames is as many advances": the frames inside of it, too
+  pub within : (k : ℕ) → w ≤ k → Led c server (advancedBy k c)
   -- "if none was prospect or primary one frame after the list, it is the highest of them"
-  pub highest : NoneBeats (advanced c) → HighestOfThem c server
+  pub highest : NoneProspectOrPrimary (advanced c) → HighestOfThem c server
 
 -- "After any list of calls from a fresh channel, refused ones included: with no link cut, some server in backup, prospect or
 -- primary": a channel with the period n is settled w frames later
@@ -78,8 +82,3 @@ SettlesIn n w =
 -- demand 3, for every period
 abbrev pub DemandThree : Type 0
 DemandThree = (n : ℕ) → SettlesIn n (settlingTime n)
-
--- what is said of the frames that a channel with the period n takes to settle
-pub record SettlingFrames (n w : ℕ) : Type 0 where
-  pub number : w ≡ settlingTime n
-  pub settles : SettlesIn n w

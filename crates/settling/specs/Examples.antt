@@ -7,9 +7,11 @@ use Rattle.heartbeat.specs.declared.Rank.{Rank}
 use Rattle.server.specs.declared.Verb.the-variants.{Start, Ready, Pass, Cut, Mend}
 use Rattle.server.specs.Verbs.{roleNumber}
 use Rattle.channel.specs.declared.Channel.{Channel}
-use Rattle.channel.specs.Table.{fresh}
+use Rattle.channel.specs.Table.{freshRefusal, fresh}
 use Rattle.channel.specs.Hearing.{place}
+use Rattle.channel.specs.Frame.{advanced}
 use Rattle.channel.specs.Calls.{Call, verb, advanceTo, channelAfter}
+use Rattle.settling.specs.Links.{NoLinkCut}
 use Rattle.settling.specs.Demand.{tableOf}
 
 -- the servers of the examples: 1, 2 and 3, of rising priority, in the places 0, 1 and 2
@@ -28,10 +30,23 @@ rolesOf c = roleNumber (place c 0 .role) ∷ roleNumber (place c 1 .role) ∷ ro
 abbrev pub lent : List ℕ
 lent = replicate 2000 0
 
-abbrev pub allReady : List Call
-allReady =
+-- all three are backup in frame 0; if only advances follow, 3 is primary from frame 12 on
+abbrev pub allReady : List Call → List Call
+allReady ks =
     verb Start 1 0 lent
     ∷ verb Ready 1 0 lent
+    ∷ verb Start 2 0 lent
+    ∷ verb Ready 2 0 lent
+    ∷ verb Start 3 0 lent
+    ∷ verb Ready 3 0 lent
+    ∷ ks
+
+-- a lower server is primary when the higher ones get ready
+abbrev pub lowerBeats : List Call
+lowerBeats =
+    verb Start 1 0 lent
+    ∷ verb Ready 1 0 lent
+    ∷ advanceTo 12 lent
     ∷ verb Start 2 0 lent
     ∷ verb Ready 2 0 lent
     ∷ verb Start 3 0 lent
@@ -41,25 +56,37 @@ allReady =
 -- the group that needs all of 4 periods and 2 frames: with 3 unheard by 2, both are primary in frame 12, where 3 passes to 1 and the
 -- link is mended
 abbrev pub slowest : List Call
-slowest =
-    verb Start 1 0 lent
-    ∷ verb Ready 1 0 lent
-    ∷ verb Start 2 0 lent
-    ∷ verb Ready 2 0 lent
-    ∷ verb Start 3 0 lent
-    ∷ verb Ready 3 0 lent
-    ∷ advanceTo 6 lent
-    ∷ verb Cut 3 2 lent
-    ∷ advanceTo 12 lent
-    ∷ verb Pass 3 1 lent
-    ∷ verb Mend 3 2 lent
-    ∷ []
+slowest = allReady (advanceTo 6 lent ∷ verb Cut 3 2 lent ∷ advanceTo 12 lent ∷ verb Pass 3 1 lent ∷ verb Mend 3 2 lent ∷ [])
 
-abbrev pub afterSlowest : Channel
-afterSlowest = channelAfter (fresh (tableOf three) 3) slowest
+-- the primary passes to the lowest, which hears it in frame t + 1
+abbrev pub passing : List Call
+passing = allReady (advanceTo 12 lent ∷ verb Pass 3 1 lent ∷ [])
 
--- the list ends in frame 12; in frame 25, which is 4 × P + 1 later, 3 is not primary yet, and in frame 26 it is
-pub record NeedsAll : Type 0 where
-  pub ends : afterSlowest .frame ≡ 12
-  pub before : rolesOf (channelAfter afterSlowest (advanceTo 25 lent ∷ [])) ≡ 3 ∷ 3 ∷ 4 ∷ []
-  pub then : rolesOf (channelAfter afterSlowest (advanceTo 26 lent ∷ [])) ≡ 3 ∷ 3 ∷ 5 ∷ []
+-- two primaries, and the link between them mended in frame t
+abbrev pub twoPrimaries : List Call
+twoPrimaries = allReady (advanceTo 6 lent ∷ verb Cut 3 2 lent ∷ advanceTo 12 lent ∷ verb Mend 3 2 lent ∷ [])
+
+abbrev pub start : Channel
+start = fresh (tableOf three) 3
+
+-- what holds of the list ks, which ends in frame 12: no link is cut, and the roles when it ends, in frame t + 1, and in frame
+-- t + 4 × P + 2 = 26
+pub record Example (ks : List Call) (ended next settled : List ℕ) : Type 0 where
+  pub uncut : NoLinkCut start ks
+  pub ends : channelAfter start ks .frame ≡ 12
+  pub roles : rolesOf (channelAfter start ks) ≡ ended
+  pub after : rolesOf (advanced (channelAfter start ks)) ≡ next
+  pub later : rolesOf (channelAfter (channelAfter start ks) (advanceTo 26 lent ∷ [])) ≡ settled
+
+pub record Examples : Type 0 where
+  pub table : freshRefusal (tableOf three) 3 ≡ 0
+  -- 1 is the one, and not the highest
+  pub lower-beats : Example lowerBeats (5 ∷ 3 ∷ 3 ∷ []) (5 ∷ 3 ∷ 3 ∷ []) (5 ∷ 3 ∷ 3 ∷ [])
+  -- nobody is prospect or primary at the end of frame t + 1, and the highest is the one
+  pub takes-all : Example slowest (3 ∷ 5 ∷ 3 ∷ []) (3 ∷ 3 ∷ 3 ∷ []) (3 ∷ 3 ∷ 5 ∷ [])
+  -- the pass is heard in frame t + 1
+  pub passes : Example passing (3 ∷ 3 ∷ 3 ∷ []) (4 ∷ 3 ∷ 3 ∷ []) (5 ∷ 3 ∷ 3 ∷ [])
+  -- two primaries, of which the higher is the one
+  pub two-beat : Example twoPrimaries (3 ∷ 5 ∷ 5 ∷ []) (3 ∷ 3 ∷ 5 ∷ []) (3 ∷ 3 ∷ 5 ∷ [])
+  -- not a frame sooner: 3 is prospect in frame t + 4 × P + 1
+  pub needs-all : rolesOf (channelAfter (channelAfter start slowest) (advanceTo 25 lent ∷ [])) ≡ 3 ∷ 3 ∷ 4 ∷ []

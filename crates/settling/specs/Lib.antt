@@ -1,3 +1,5 @@
 pub mod Links
 pub mod Demand
 pub mod Examples
+pub mod Sending
+pub mod Figure

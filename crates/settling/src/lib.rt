@@ -1,8 +1,8 @@
 // A channel settles: demand 3, of the definitions of the group. The theorem stands in the contract of the figure.
 use server::Period;
-ghost use Rattle.settling.specs.Demand.{SettlingFrames};
+ghost use Rattle.settling.specs.Figure.{SettlingFrames};
 
-// The frames after which a channel with this period has one primary, and ever after the same: 4 periods and 2 frames.
+// The frames within which a channel with this period comes to one primary, and ever after the same: 4 periods and 2 frames.
 pub fn settling_frames(period: Period) -> u32
     ensures { λ r. ⌜ SettlingFrames (period .frames) r ⌝ }
 {

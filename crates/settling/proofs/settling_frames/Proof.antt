@@ -6,6 +6,7 @@ use Rattle.settling.specs.Demand.{settlingTime, SettlesIn}
 use Rattle.settling.proofs.settling_frames.Statement.{statement}
 use Rattle.settling.proofs.settling_frames.Tie as tie
 use Rattle.settling.proofs.Demand.{settles}
+use Rattle.settling.proofs.Sending.{sent-in-order}
 
 -- the figure is that of the theorem, and so the channel settles in it
 returns : tie.Need-returns
@@ -14,7 +15,7 @@ returns c =
     let a = c .before .silence-limit .ensures in
     let b = c .prospect-limit .ensures in
     let e : c .before .silence-limit .result + c .prospect-limit .result + 2 ≡ settlingTime n = omega (arith, a, b) in
-    record { number = e; settles = subst (SettlesIn n) (sym e) (settles n) }
+    record { number = e; settles = subst (SettlesIn n) (sym e) (settles n); ordered = sent-in-order }
 
 pub settling-frames-spec : {M : Type 1} → statement M
 settling-frames-spec =

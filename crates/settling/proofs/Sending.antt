@@ -1,0 +1,373 @@
+-- After any list of calls, every event of the next frame and every verb appends what it sends. Assumes nothing.
+use mathlib.Core.Bool.{Bool, true, false, _&&_, _||_}
+use mathlib.Core.Path.{_≡_, refl, sym, ap, subst, _∙_}
+use mathlib.Core.Logic.{_⊎_, inl, inr}
+use mathlib.Core.List.{List, [], _∷_, _++_, append-nil}
+use Prim.Native.Nat.{ℕ, suc, _+_, _<_, _≤_}
+use native.Mathlib.Omega.{arith}
+use borrow.Author.Tests.{eqb-true, eqb-false, lt-ltb, le-ltb}
+use lib.Dec.{eqb, ltb}
+use lib.ListN.{getD, List·getD-eq-default}
+use Rattle.lists.specs.Choice.{choose}
+use Rattle.lists.specs.Lists.{all}
+use Rattle.lists.proofs.Cases.{tested, less, chosen, other, and-true, fst-true, snd-true}
+use Rattle.refusal.specs.Answer.{Answer, refused}
+use Rattle.heartbeat.specs.declared.Rank.{Rank}
+use Rattle.heartbeat.specs.declared.Heartbeat.{Heartbeat}
+use Rattle.heartbeat.specs.Heartbeat.{isSet}
+use Rattle.server.specs.declared.Role.{Role}
+use Rattle.server.specs.declared.Role.the-variants.{Down, Idle, Sync, Backup, Prospect, Primary}
+use Rattle.server.specs.declared.Verb.{Verb}
+use Rattle.server.specs.declared.Verb.the-variants.{Start, Ready, Unready, Pass, Crash, Restart, Cut, Mend}
+use Rattle.server.specs.declared.Event.{Event}
+use Rattle.server.specs.declared.Event.the-variants.{Nothing, ToBackup, ToProspectBeat, ToProspectReveal, Lower, Beat}
+use Rattle.server.specs.declared.Period.{Period}
+use Rattle.server.specs.declared.Server.{Server}
+use Rattle.server.specs.Period.{silenceLimit, prospectLimit, beatLimit}
+use Rattle.server.specs.Server.{absent, setSilence, cleared, oneMore, sentBy, after}
+use Rattle.server.specs.Hearing.{fromHigher, fromLower, forThis, backupHears, prospectHears, primaryHears, hearsIn, hears, attending, heard}
+use Rattle.server.specs.Timers.{aged, silentIn, beatingIn, risingIn, afterSilent, afterBeating}
+use Rattle.server.specs.Verbs.{from, enters, entering, verbEvent, verbHappens, verbAnswer}
+use Rattle.channel.specs.declared.Channel.{Channel}
+use Rattle.channel.specs.Table.{empty, fresh}
+use Rattle.channel.specs.Hearing.{place, inbox}
+use Rattle.channel.specs.Frame.{heardAll}
+use Rattle.channel.specs.Verbs.{placeOf, happens}
+use Rattle.channel.specs.Calls.{channelAfter}
+use Rattle.traces.specs.Trace.{isActive, isBeating}
+use Rattle.traces.proofs.Laws.{on, clash}
+use Rattle.traces.proofs.Ways as ways
+use Rattle.settling.specs.Demand.{tableOf}
+use Rattle.settling.specs.Sending.{Appends, TimersAppend, InOrderSent, SentInOrder}
+use Rattle.settling.proofs.Inbox.{Falls}
+use Rattle.settling.proofs.Heard.{rest-all}
+use Rattle.settling.proofs.Kept.{rank-heard, RevealerBeats, unrevealed, revealer-heard}
+use Rattle.settling.proofs.Sound.{Sound, hears-falls, hears-apart}
+use Rattle.settling.proofs.Made.{or-false, neat-empty, sound-fresh}
+use Rattle.settling.proofs.Reached.{sound-after}
+use Rattle.settling.proofs.Demand.{neat-with}
+use Rattle.settling.proofs.Few.{marks, marked, marked-append, few-marked}
+use Rattle.settling.proofs.Ordered.{beat-appends, timer-appends, reveal-appends, pass-appends, nothing-appends, backup-appends, lower-appends, primary-appends, sync-appends, idle-appends, down-appends}
+
+-- ---- while hearing
+
+-- a server in the midst of hearing in frame t, that has heard k passes to itself
+pub record Midway (t : ℕ) (s : Server) (k : ℕ) : Type 0 where
+  pub unpassed : s .pass ≡ 0
+  pub few : s .beats ≤ k
+  -- it has sent nothing, or set its beat timer in this frame
+  pub timer : ((s .beats ≡ 0) × (s .reveal ≡ false)) ⊎ (s .beat ≡ t)
+
+more-beats : (n : ℕ) → oneMore n ≤ suc n
+unfolding oneMore
+more-beats n =
+    on (less n 15)
+    (λ h. let e : _≡_ {A = ℕ} (choose (ltb n 15) (n + 1) 15) (n + 1) = chosen 15 (lt-ltb n 15 h) in omega (arith, e))
+    (λ h. let e : _≡_ {A = ℕ} (choose (ltb n 15) (n + 1) 15) 15 = other (n + 1) (le-ltb n 15 h) in omega (arith, e))
+
+-- an event that sends nothing, or a reveal
+midway-nothing : (t : ℕ) (s : Server) (k j : ℕ) → Midway t s k → Midway t (after t s Nothing) (k + j)
+unfolding after
+midway-nothing t s k j m = record { unpassed = m .unpassed; few = let l = m .few in omega arith; timer = m .timer }
+
+midway-backup : (t : ℕ) (s : Server) (k j : ℕ) → Midway t s k → Midway t (after t s ToBackup) (k + j)
+unfolding after
+midway-backup t s k j m = record { unpassed = m .unpassed; few = let l = m .few in omega arith; timer = m .timer }
+
+midway-lower : (t : ℕ) (s : Server) (k j : ℕ) → Midway t s k → Midway t (after t s Lower) (k + j)
+unfolding after
+midway-lower t s k j m = record { unpassed = m .unpassed; few = let l = m .few in omega arith; timer = m .timer }
+
+midway-reveal : (t : ℕ) (s : Server) (k j : ℕ) → Midway t s k → Midway t (after t s ToProspectReveal) (k + j)
+unfolding after
+midway-reveal t s k j m = record { unpassed = m .unpassed; few = let l = m .few in omega arith; timer = inr refl }
+
+-- a beat
+midway-beat : (t : ℕ) (s : Server) (k : ℕ) → Midway t s k → Midway t (after t s ToProspectBeat) (k + 1)
+unfolding after
+midway-beat t s k m =
+    record { unpassed = m .unpassed; few = let l = m .few in let b = more-beats (s .beats) in omega (arith, l, b); timer = inr refl }
+
+-- what holds of either event of a choice holds of the choice
+chosen-event : (P : Event → Type 0) (b : Bool) {x y : Event} → (b ≡ true → P x) → (b ≡ false → P y) → P (choose b x y)
+unfolding choose
+chosen-event P true f g = f refl
+chosen-event P false f g = g refl
+
+-- one heartbeat, in each role
+midway-as :
+    (t : ℕ) (s : Server) (h : Heartbeat) (k : ℕ) (r : Role) → Midway t s k →
+    Midway t (after t (attending t r s) (hearsIn r s h)) (k + choose (marks (s .identity) h) 1 0)
+unfolding backupHears prospectHears primaryHears forThis
+midway-as t s h k Down m = midway-nothing t s k _ m
+midway-as t s h k Idle m = midway-nothing t s k _ m
+midway-as t s h k Sync m = midway-nothing t s k _ m
+midway-as t s h k Backup m =
+    let x = setSilence t s in
+    let n : Midway t x k = record { unpassed = m .unpassed; few = m .few; timer = m .timer } in
+    chosen-event (λ e. Midway t (after t x e) (k + choose (marks (s .identity) h) 1 0)) (marks (s .identity) h)
+    (λ e. subst (λ (j : ℕ). Midway t (after t x ToProspectBeat) (k + j)) (sym (chosen 0 e)) (midway-beat t x k n))
+    (λ e.
+    chosen-event (λ v. Midway t (after t x v) (k + choose (marks (s .identity) h) 1 0)) (isSet (h .reveal) && fromLower s h)
+    (λ f. midway-reveal t x k _ n)
+    (λ f. midway-nothing t x k _ n))
+midway-as t s h k Prospect m =
+    chosen-event (λ v. Midway t (after t s v) (k + choose (marks (s .identity) h) 1 0)) (fromHigher s h)
+    (λ f. midway-backup t s k _ m)
+    (λ f. midway-nothing t s k _ m)
+midway-as t s h k Primary m =
+    chosen-event (λ v. Midway t (after t s v) (k + choose (marks (s .identity) h) 1 0)) (fromHigher s h)
+    (λ f. midway-backup t s k _ m)
+    (λ f.
+    chosen-event (λ v. Midway t (after t s v) (k + choose (marks (s .identity) h) 1 0)) (fromLower s h)
+    (λ g. midway-lower t s k _ m)
+    (λ g. midway-nothing t s k _ m))
+
+identity-one : (t : ℕ) (s : Server) (h : Heartbeat) → heard t s h .server .identity ≡ s .identity
+unfolding heardAll
+identity-one t s h = ap (λ (r : Rank). r .identity) (rank-heard t s (h ∷ []))
+
+midway-all : (t : ℕ) (s : Server) (hs : List Heartbeat) (k : ℕ) → Midway t s k → Midway t (heardAll t s hs) (k + marked (s .identity) hs)
+unfolding heardAll
+midway-all t s [] k m = record { unpassed = m .unpassed; few = let l = m .few in omega arith; timer = m .timer }
+midway-all t s (h ∷ hs) k m =
+    let x = heard t s h .server in
+    let a = midway-all t x hs (k + choose (marks (s .identity) h) 1 0) (midway-as t s h k (s .role) m) in
+    let b : k + choose (marks (s .identity) h) 1 0 + marked (x .identity) hs ≡ k + (choose (marks (s .identity) h) 1 0 + marked (s .identity) hs) =
+    ap (λ (i : ℕ). k + choose (marks (s .identity) h) 1 0 + marked i hs) (identity-one t s h) ∙ (let q : k + choose (marks (s .identity) h) 1 0 + marked (s .identity) hs ≡ k + (choose (marks (s .identity) h) 1 0 + marked (s .identity) hs) = omega arith in q) in
+    subst (λ (n : ℕ). Midway t (heardAll t x hs) n) b a
+
+-- ---- the events of hearing
+
+hear-appends :
+    (t : ℕ) (s : Server) (h : Heartbeat) (k : ℕ) (r : Role) → s .role ≡ r → Midway t s k → RevealerBeats s → k + choose (marks (s .identity) h) 1 0 ≤ 15 →
+    Appends t (attending t r s) (hearsIn r s h)
+unfolding backupHears prospectHears primaryHears forThis isBeating
+hear-appends t s h k Down e m v l = nothing-appends t s
+hear-appends t s h k Idle e m v l = nothing-appends t s
+hear-appends t s h k Sync e m v l = nothing-appends t s
+hear-appends t s h k Backup e m v l =
+    let x = setSilence t s in
+    let un = unrevealed s v (ap isBeating e) in
+    chosen-event (Appends t x) (marks (s .identity) h)
+    (λ f.
+    let few = m .few in
+    let one : _≡_ {A = ℕ} (choose (marks (s .identity) h) 1 0) 1 = chosen 0 f in
+    beat-appends t x (m .unpassed) un (omega (arith, few, one, l)))
+    (λ f.
+    chosen-event (Appends t x) (isSet (h .reveal) && fromLower s h)
+    (λ g. reveal-appends t x (m .unpassed) un)
+    (λ g. nothing-appends t x))
+hear-appends t s h k Prospect e m v l = chosen-event (Appends t s) (fromHigher s h) (λ f. backup-appends t s) (λ f. nothing-appends t s)
+hear-appends t s h k Primary e m v l =
+    chosen-event (Appends t s) (fromHigher s h)
+    (λ f. backup-appends t s)
+    (λ f. chosen-event (Appends t s) (fromLower s h) (λ g. lower-appends t s) (λ g. nothing-appends t s))
+
+-- ---- the timers
+
+module _ (t : ℕ) (p : Period) (some : 1 ≤ p .frames) where
+  silent-appends : (m : Server) (r : Role) → m .role ≡ r → m .pass ≡ 0 → RevealerBeats m → Appends t m (silentIn r (aged (m .silence) (silenceLimit p) t))
+  unfolding isBeating
+  silent-appends m Down e z v = nothing-appends t m
+  silent-appends m Idle e z v = nothing-appends t m
+  silent-appends m Sync e z v = nothing-appends t m
+  silent-appends m Backup e z v =
+      chosen-event (Appends t m) (aged (m .silence) (silenceLimit p) t)
+      (λ f. reveal-appends t m z (unrevealed m v (ap isBeating e)))
+      (λ f. nothing-appends t m)
+  silent-appends m Prospect e z v = nothing-appends t m
+  silent-appends m Primary e z v = nothing-appends t m
+
+  -- a due beat is that of a server that has sent nothing
+  due-appends : (m : Server) (k : ℕ) → Midway t m k → aged (m .beat) (beatLimit p) t ≡ true → Appends t m Beat
+  due-appends m k w due =
+      let e = eqb-true (m .beat + beatLimit p) t due in
+      on (w .timer)
+      (λ r. let z = r .0 in timer-appends t m (w .unpassed) (r .1) (omega (arith, z)))
+      (λ q. absurd (omega (arith, q, e, some)))
+
+  beating-appends : (m : Server) (k : ℕ) (r : Role) → Midway t m k → Appends t m (beatingIn r (aged (m .beat) (beatLimit p) t))
+  beating-appends m k Down w = nothing-appends t m
+  beating-appends m k Idle w = nothing-appends t m
+  beating-appends m k Sync w = nothing-appends t m
+  beating-appends m k Backup w = nothing-appends t m
+  beating-appends m k Prospect w = chosen-event (Appends t m) (aged (m .beat) (beatLimit p) t) (due-appends m k w) (λ f. nothing-appends t m)
+  beating-appends m k Primary w = chosen-event (Appends t m) (aged (m .beat) (beatLimit p) t) (due-appends m k w) (λ f. nothing-appends t m)
+
+  rising-appends : (m : Server) (r : Role) → Appends t m (risingIn r (aged (m .prospect) (prospectLimit p) t))
+  rising-appends m Down = nothing-appends t m
+  rising-appends m Idle = nothing-appends t m
+  rising-appends m Sync = nothing-appends t m
+  rising-appends m Backup = nothing-appends t m
+  rising-appends m Prospect = chosen-event (Appends t m) (aged (m .prospect) (prospectLimit p) t) (λ f. primary-appends t m) (λ f. nothing-appends t m)
+  rising-appends m Primary = nothing-appends t m
+
+  midway-silent : (m : Server) (k : ℕ) (r : Role) → Midway t m k → Midway t (after t m (silentIn r (aged (m .silence) (silenceLimit p) t))) (k + 0)
+  midway-silent m k Down w = midway-nothing t m k 0 w
+  midway-silent m k Idle w = midway-nothing t m k 0 w
+  midway-silent m k Sync w = midway-nothing t m k 0 w
+  midway-silent m k Backup w =
+      chosen-event (λ e. Midway t (after t m e) (k + 0)) (aged (m .silence) (silenceLimit p) t)
+      (λ f. midway-reveal t m k 0 w)
+      (λ f. midway-nothing t m k 0 w)
+  midway-silent m k Prospect w = midway-nothing t m k 0 w
+  midway-silent m k Primary w = midway-nothing t m k 0 w
+
+-- ---- prefixes of what is heard
+
+rest-of : List Heartbeat → List Heartbeat
+rest-of [] = []
+rest-of (h ∷ l) = l
+
+all-left : (q : Heartbeat → Bool) (a b : List Heartbeat) → all q (a ++ b) ≡ true → all q a ≡ true
+all-left q [] b e = refl
+all-left q (x ∷ a) b e = and-true (fst-true (q x) (all q (a ++ b)) e) (all-left q a b (snd-true (q x) (all q (a ++ b)) e))
+
+prefix-parts :
+    (s : Server) (a b u w : List Heartbeat) → a ++ b ≡ u ++ w → all (fromHigher s) u ≡ true → all (fromLower s) w ≡ true → Falls s a
+unfolding rest-of
+prefix-parts s [] b u w e f g = record { upper = []; under = []; parts = refl; highers = refl; lowers = refl }
+prefix-parts s (x ∷ a) b [] w e f g =
+    record {
+      upper = [];
+      under = x ∷ a;
+      parts = refl;
+      highers = refl;
+      lowers = all-left (fromLower s) (x ∷ a) b (ap (all (fromLower s)) e ∙ g);
+    }
+prefix-parts s (x ∷ a) b (y ∷ u) w e f g =
+    let r = prefix-parts s a b u w (ap rest-of e) (snd-true (fromHigher s y) (all (fromHigher s) u) f) g in
+    record {
+      upper = x ∷ r .upper;
+      under = r .under;
+      parts = ap (λ (l : List Heartbeat). x ∷ l) (r .parts);
+      highers = and-true
+          (ap (λ (l : List Heartbeat). fromHigher s (getD l 0 x)) e ∙ fst-true (fromHigher s y) (all (fromHigher s) u) f)
+          (r .highers);
+      lowers = r .lowers;
+    }
+
+-- ---- verbs
+
+-- whoever may pass is primary
+passer : (r : Role) → enters Pass r .number ≡ 0 → r ≡ Primary
+unfolding enters from choose
+passer Down e = absurd (omega (arith, e))
+passer Idle e = absurd (omega (arith, e))
+passer Sync e = absurd (omega (arith, e))
+passer Backup e = absurd (omega (arith, e))
+passer Prospect e = absurd (omega (arith, e))
+passer Primary e = refl
+
+entering-appends : (t : ℕ) (s : Server) (k : ℕ) → Appends t s (entering k)
+unfolding entering
+entering-appends t s k =
+    chosen-event (Appends t s) (eqb k 0)
+    (λ e. down-appends t s)
+    (λ e.
+    chosen-event (Appends t s) (eqb k 1)
+    (λ f. idle-appends t s)
+    (λ f. chosen-event (Appends t s) (eqb k 2) (λ g. sync-appends t s) (λ g. backup-appends t s)))
+
+-- an answer that is a refusal, or else one that is none
+no-answer : (b : Bool) (x y : Answer) → (x .number ≡ 0 → ⊥) → choose b x y .number ≡ 0 → (b ≡ false) × (y .number ≡ 0)
+unfolding choose
+no-answer true x y h e = absurd (h e)
+no-answer false x y h e = (refl, e)
+
+-- a pass that is answered is that of a primary, to somebody
+pass-taken : (b : ℕ) (s : Server) → verbAnswer Pass b s .number ≡ 0 → (b ≡ 0 → ⊥) × (s .role ≡ Primary)
+unfolding verbAnswer
+pass-taken b s e =
+    let a = no-answer (eqb (s .identity) 0 || eqb b 0) (refused 2) _ (λ z. omega (arith, z)) e in
+    let d = no-answer (eqb b (s .identity)) (refused 8) _ (λ z. omega (arith, z)) (a .1) in
+    (eqb-false b 0 (or-false (eqb (s .identity) 0) (eqb b 0) (a .0) .1), passer (s .role) (d .1))
+
+event-appends :
+    (t : ℕ) (s : Server) (v : Verb) (b k : ℕ) → (isBeating (s .role) ≡ true → s .pass ≡ 0) → verbAnswer v b s .number ≡ 0 → Appends t s (verbEvent v b k)
+event-appends t s Start b k u e = entering-appends t s k
+event-appends t s Ready b k u e = entering-appends t s k
+event-appends t s Unready b k u e = entering-appends t s k
+event-appends t s Pass b k u e = let r = pass-taken b s e in pass-appends t s b (u (ways.primary-beats (r .1))) (r .0)
+event-appends t s Crash b k u e = entering-appends t s k
+event-appends t s Restart b k u e = entering-appends t s k
+event-appends t s Cut b k u e = nothing-appends t s
+event-appends t s Mend b k u e = nothing-appends t s
+
+verb-appends : (t : ℕ) (s : Server) (v : Verb) (b : ℕ) → (isBeating (s .role) ≡ true → s .pass ≡ 0) → Appends t s (verbHappens v b (verbAnswer v b s))
+unfolding verbHappens
+verb-appends t s v b u =
+    let a = verbAnswer v b s in
+    chosen-event (Appends t s) (eqb (a .number) 0)
+    (λ e. event-appends t s v b (getD (a .values) 0 0) u (eqb-true (a .number) 0 e))
+    (λ e. nothing-appends t s)
+
+-- ---- the channel
+
+module _ (c : Channel) (sound : Sound c) where
+  abbrev now : ℕ
+  now = c .frame + 1
+
+  -- whatever a place has heard so far, if it has revealed, it beats
+  revealer-past : (i : ℕ) → i < 16 → (past rest : List Heartbeat) → inbox c i ≡ past ++ rest → RevealerBeats (heardAll now (cleared (place c i)) past)
+  revealer-past i l past rest e =
+      let s = cleared (place c i) in
+      on (tested (isActive (place c i .role)))
+      (λ a.
+      let f = hears-falls c sound i l a in
+      revealer-heard now s past (prefix-parts s past rest (f .upper) (f .under) (sym e ∙ f .parts) (f .highers) (f .lowers)) refl)
+      (λ a. subst RevealerBeats (sym (rest-all now s past a)) (λ q. absurd (clash q refl)))
+
+  midway : (i : ℕ) (past : List Heartbeat) → Midway now (heardAll now (cleared (place c i)) past) (0 + marked (place c i .identity) past)
+  midway i past = midway-all now (cleared (place c i)) past 0 (record { unpassed = refl; few = omega arith; timer = inl (refl, refl) })
+
+  begun : (s : Server) → sentBy (cleared s) ≡ []
+  unfolding sentBy choose
+  begun s = refl
+
+  hearing-appends :
+      (i : ℕ) → i < 16 → (past : List Heartbeat) (h : Heartbeat) (rest : List Heartbeat) → inbox c i ≡ past ++ (h ∷ rest) →
+      let s = heardAll now (cleared (place c i)) past in Appends now (attending now (s .role) s) (hears s h)
+  hearing-appends i l past h rest e =
+      let x = place c i .identity in
+      let s = heardAll now (cleared (place c i)) past in
+      let id : s .identity ≡ x = ap (λ (r : Rank). r .identity) (rank-heard now (cleared (place c i)) past) in
+      let same = ap {B = ℕ} (λ (n : ℕ). choose (marks n h) 1 0) id in
+      let all15 = few-marked x c i (hears-apart c sound i) l in
+      let split = ap (marked x) e ∙ marked-append x past (h ∷ rest) in
+      hear-appends now s h (0 + marked x past) (s .role) refl (midway i past) (revealer-past i l past (h ∷ rest) e) (omega (arith, same, all15, split))
+
+  timers-append : (i : ℕ) → i < 16 → TimersAppend now c (heardAll now (cleared (place c i)) (inbox c i))
+  unfolding afterSilent afterBeating
+  timers-append i l =
+      let m = heardAll now (cleared (place c i)) (inbox c i) in
+      let w = midway i (inbox c i) in
+      let v = revealer-past i l (inbox c i) [] (sym (append-nil (inbox c i))) in
+      let s = afterSilent now (c .period) m in
+      let y = midway-silent now (c .period) (sound .period) m _ (m .role) w in
+      record {
+        silence = silent-appends now (c .period) (sound .period) m (m .role) refl (w .unpassed) v;
+        beat = beating-appends now (c .period) (sound .period) s _ (s .role) y;
+        rise = rising-appends now (c .period) (sound .period) (afterBeating now (c .period) s) (afterBeating now (c .period) s .role);
+      }
+
+  verbs-append : (v : Verb) (a b : ℕ) → Appends (c .frame) (place c (placeOf c a)) (happens c v a b)
+  verbs-append v a b = verb-appends (c .frame) (place c (placeOf c a)) v b (unpassed (placeOf c a))
+    where
+      -- beyond the places nobody beats
+      unpassed : (i : ℕ) → isBeating (place c i .role) ≡ true → place c i .pass ≡ 0
+      unpassed i e =
+          on (less i 16)
+          (sound .unpassed i)
+          (λ g h.
+          let z = sound .long in
+          ap (λ (x : Server). x .pass) (List·getD-eq-default (c .servers) absent {n = i} (omega (arith, z, g))))
+          e
+
+  pub in-order : InOrderSent c
+  in-order = record { begins = λ i l. begun (place c i); hearing = hearing-appends; timers = timers-append; verbs = verbs-append }
+
+pub sent-in-order : SentInOrder
+sent-in-order rs n ks ok =
+    in-order (channelAfter (fresh (tableOf rs) n) ks) (sound-after (fresh (tableOf rs) n) ks (sound-fresh (tableOf rs) n (neat-with empty rs neat-empty) ok))
