@@ -87,26 +87,25 @@ fn d1_whole() {
     assert_eq!(play(day), sheet);
 }
 
-#[test]
-fn d2_crash_at_8() {
+/// D2 and D3: the primary crashes in a frame with a beat, or after it; the sheet is the same but for that line.
+fn expect_crash_at(frame: u32) {
     expect(
-        &format!("{GROUP}{READY}@8 crash 2\nend @18"),
+        &format!("{GROUP}{READY}@{frame} crash 2\nend @18"),
         &format!(
-            "{READY_SHEET}{CHOICE_SHEET}@8 2 down\n\
+            "{READY_SHEET}{CHOICE_SHEET}@{frame} 2 down\n\
              @13 1 prospect\n@13 1 reveal\n@15 1 beat\n@17 1 beat\n@17 1 primary"
         ),
     );
 }
 
 #[test]
+fn d2_crash_at_8() {
+    expect_crash_at(8);
+}
+
+#[test]
 fn d3_crash_at_9() {
-    expect(
-        &format!("{GROUP}{READY}@9 crash 2\nend @18"),
-        &format!(
-            "{READY_SHEET}{CHOICE_SHEET}@9 2 down\n\
-             @13 1 prospect\n@13 1 reveal\n@15 1 beat\n@17 1 beat\n@17 1 primary"
-        ),
-    );
+    expect_crash_at(9);
 }
 
 #[test]
