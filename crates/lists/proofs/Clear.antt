@@ -1,14 +1,14 @@
 -- Lists without c, joined by c: where the first c stands, and what the parts are. Assumes nothing.
-use mathlib.Core.Bool.{Bool, true, false, not, _&&_}
+use mathlib.Core.Bool.{Bool, true, not}
 use mathlib.Core.Path.{_≡_, refl, ap, _∙_}
-use mathlib.Core.List.{List, [], _∷_, _++_}
+use mathlib.Core.List.{List, [], _∷_, _++_, List·Memᴰ, List·Memᴰ·head, List·Memᴰ·tail, List·Memᴰ·not-nil, List·Memᴰ·cases-cons}
 use Prim.Native.Nat.{ℕ, zero, suc, _<_}
 use native.Mathlib.Omega.{arith}
 use borrow.Author.Tests.{eqb-false, not-true}
 use lib.Dec.{eqb}
 use lib.ListN.{length, getD}
 use Rattle.lists.specs.Lists.{all, onFirst, splitOn, upTo}
-use Rattle.lists.proofs.Cases.{and-true, fst-true, snd-true}
+use Rattle.lists.proofs.Cases.{on, and-true, fst-true, snd-true}
 use Rattle.lists.proofs.Parts.{here, later, split-here, split-later}
 
 -- what passes in each of two lists passes in both joined
@@ -34,6 +34,16 @@ pub all-at : {A : Type 0} (p : A → Bool) (l : List A) (i : ℕ) (d : A) → al
 all-at p [] i d e h = absurd (omega arith)
 all-at p (x ∷ l) zero d e h = fst-true (p x) (all p l) e
 all-at p (x ∷ l) (suc i) d e h = all-at p l i d (snd-true (p x) (all p l) e) (omega arith)
+
+-- what every element passes, each does
+pub all-mem : {A : Type 0} (p : A → Bool) (l : List A) {x : A} → all p l ≡ true → List·Memᴰ x l → p x ≡ true
+all-mem p [] e m = absurd (List·Memᴰ·not-nil m)
+all-mem p (y ∷ l) e m = on (List·Memᴰ·cases-cons m) (λ q. rw q (fst-true (p y) (all p l) e)) (λ q. all-mem p l (snd-true (p y) (all p l) e) q)
+
+-- a test that each element passes
+pub all-of : {A : Type 0} (p : A → Bool) (l : List A) → ((x : A) → List·Memᴰ x l → p x ≡ true) → all p l ≡ true
+all-of p [] f = refl
+all-of p (x ∷ l) f = and-true (f x (List·Memᴰ·head refl)) (all-of p l (λ y m. f y (List·Memᴰ·tail m)))
 
 -- no element is c
 pub record Clear (c : ℕ) (s : List ℕ) : Type 0 where

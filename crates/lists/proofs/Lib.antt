@@ -1,4 +1,5 @@
 pub mod Cases
+pub mod Counting
 pub mod Splicing
 pub mod Parts
 pub mod MapLoop

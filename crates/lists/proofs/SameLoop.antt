@@ -11,7 +11,7 @@ use lib.Dec.{eqb}
 use lib.ListN.{length, getD, drop, drop-of-length-le}
 use lib.Seq.{drop-cons}
 use Rattle.lists.specs.Lists.{same}
-use Rattle.lists.proofs.Cases.{and-right, fst-true, snd-true}
+use Rattle.lists.proofs.Cases.{clash, and-right, fst-true, snd-true}
 
 pub same-refl : (s : List ℕ) → same s s ≡ true
 unfolding same
@@ -21,8 +21,8 @@ same-refl (x ∷ s) = rw (eq-eqb x x refl) (same-refl s)
 pub same-equal : (s w : List ℕ) → same s w ≡ true → s ≡ w
 unfolding same
 same-equal [] [] e = refl
-same-equal [] (y ∷ w) e = let z : _≡_ {A = ℕ} 0 1 = cc in absurd (omega arith)
-same-equal (x ∷ s) [] e = let z : _≡_ {A = ℕ} 0 1 = cc in absurd (omega arith)
+same-equal [] (y ∷ w) e = absurd (clash e refl)
+same-equal (x ∷ s) [] e = absurd (clash e refl)
 same-equal (x ∷ s) (y ∷ w) e =
     ap₂ (λ (a : ℕ) (l : List ℕ). a ∷ l) (eqb-true x y (fst-true (eqb x y) (same s w) e)) (same-equal s w (snd-true (eqb x y) (same s w) e))
 

@@ -1,5 +1,5 @@
 -- Lists, place by place.
-use mathlib.Core.Bool.{Bool, true, false, _&&_, _||_}
+use mathlib.Core.Bool.{Bool, true, false, cond, _&&_, _||_}
 use mathlib.Core.List.{List, [], _∷_}
 use Prim.Native.Nat.{ℕ, zero, suc}
 use lib.Dec.{eqb}
@@ -24,6 +24,11 @@ all p (x ∷ l) = p x && all p l
 unfoldable pub anyBelow : ℕ → (ℕ → Bool) → Bool
 anyBelow zero p = false
 anyBelow (suc n) p = anyBelow n p || p n
+
+-- how many below n pass the test p
+unfoldable pub count : (ℕ → Bool) → ℕ → ℕ
+count p zero = 0
+count p (suc n) = cond (p n) (suc (count p n)) (count p n)
 
 -- the two lists are equal
 unfoldable pub same : List ℕ → List ℕ → Bool

@@ -1,3 +1,5 @@
 pub mod Timing
+pub mod Limits
+pub mod Sent
 pub mod Table
 pub mod Acting

@@ -8,8 +8,7 @@ use native.Mathlib.Omega.{arith}
 use borrow.Author.Tests.{eq-eqb}
 use lib.Dec.{eqb}
 use lib.ListN.{length, getD-replicate}
-use Rattle.lists.specs.Choice.{choose}
-use Rattle.lists.proofs.Cases.{chosen, fst-true, snd-true}
+use Rattle.lists.proofs.Cases.{chosen, fst-true, snd-true, on, clash}
 use Rattle.heartbeat.specs.declared.Rank.{Rank}
 use Rattle.server.specs.declared.Period.{Period}
 use Rattle.server.specs.Period.{silenceLimit, prospectLimit}
@@ -23,8 +22,7 @@ use Rattle.channel.specs.Verbs.{did}
 use Rattle.channel.specs.Advance.{advancedBy}
 use Rattle.channel.specs.Calls.{Call, verb, advance, advanceTo, outcomeOf, sliceOf, callNumber, callChannel, channelAfter}
 use Rattle.traces.specs.Settling.{Settled}
-use Rattle.traces.proofs.Laws.{on, clash}
-use Rattle.settling.specs.Demand.{withServers, tableOf, isVerb, verbsRefused, settlingTime, Led, Settles, DemandThree}
+use Rattle.settling.specs.Demand.{withServers, tableOf, refusedIfVerb, verbsRefused, settlingTime, Led, Settles, DemandThree}
 use Rattle.settling.proofs.Sound.{Sound, AllWhole}
 use Rattle.settling.proofs.Run.{runs, traceOf, frame-run, rank-run}
 use Rattle.settling.proofs.Instance.{channel-settles}
@@ -50,12 +48,12 @@ unfolding callNumber
 accepted-verb c k z = eq-eqb (numberIn (outcomeOf c k) (length (sliceOf k))) 0 z
 
 -- the frames that a call counts, if it is no accepted verb
-one-call : (c : Channel) (k : Call) → choose (isVerb k) (not (eqb (callNumber c k) 0)) true ≡ true → (m : ℕ) × (callChannel c k ≡ runs m c)
+one-call : (c : Channel) (k : Call) → refusedIfVerb c k ≡ true → (m : ℕ) × (callChannel c k ≡ runs m c)
 unfolding runs
 one-call c k e = on (handed c k) (λ r. taken k e (r .0) (r .1)) (λ r. (0, r .1))
   where
     taken :
-        (k : Call) → choose (isVerb k) (not (eqb (callNumber c k) 0)) true ≡ true → numberIn (outcomeOf c k) (length (sliceOf k)) ≡ 0 →
+        (k : Call) → refusedIfVerb c k ≡ true → numberIn (outcomeOf c k) (length (sliceOf k)) ≡ 0 →
         callChannel c k ≡ outcomeOf c k .channel → (m : ℕ) × (callChannel c k ≡ runs m c)
     taken (verb v a b d) f z h = absurd (clash (sym (chosen true refl) ∙ f) (ap not (accepted-verb c (verb v a b d) z)))
     taken (advance d) f z h = (1, h)
@@ -65,8 +63,8 @@ pub frames-only : (c : Channel) (ls : List Call) → verbsRefused c ls ≡ true 
 unfolding channelAfter verbsRefused runs
 frames-only c [] e = (0, refl)
 frames-only c (k ∷ ls) e =
-    let a = one-call c k (fst-true (choose (isVerb k) (not (eqb (callNumber c k) 0)) true) (verbsRefused (callChannel c k) ls) e) in
-    let b = frames-only (callChannel c k) ls (snd-true (choose (isVerb k) (not (eqb (callNumber c k) 0)) true) (verbsRefused (callChannel c k) ls) e) in
+    let a = one-call c k (fst-true (refusedIfVerb c k) (verbsRefused (callChannel c k) ls) e) in
+    let b = frames-only (callChannel c k) ls (snd-true (refusedIfVerb c k) (verbsRefused (callChannel c k) ls) e) in
     (b .0 + a .0, b .1 ∙ ap (runs (b .0)) (a .1) ∙ runs-more (b .0) (a .0) c)
 
 -- ---- tables and periods

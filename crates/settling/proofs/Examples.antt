@@ -7,10 +7,11 @@ use borrow.Author.Tests.{eqb-true, not-true}
 use lib.Dec.{eqb}
 use Rattle.lists.specs.Choice.{choose}
 use Rattle.lists.specs.Lists.{same}
-use Rattle.lists.proofs.Cases.{tested, other, fst-true, snd-true}
+use Rattle.lists.proofs.Cases.{tested, other, fst-true, snd-true, on, same-choice}
 use Rattle.lists.proofs.SameLoop.{same-equal}
 use Rattle.text.specs.Digits.{digits}
 use Rattle.timecode.specs.Label.{label}
+use Rattle.heartbeat.specs.declared.Rank.{Rank}
 use Rattle.heartbeat.specs.Rank.{higher}
 use Rattle.server.specs.declared.Verb.the-variants.{Start, Ready, Unready, Pass, Crash, Restart, Cut, Mend}
 use Rattle.server.specs.Period.{takePeriod}
@@ -27,10 +28,9 @@ use Rattle.channel.specs.Frame.{heardAll, heardLines, timedLines, hearing, turn
 use Rattle.channel.specs.Verbs.{namesNobody, known, stateRefusal, verbRefusal, did}
 use Rattle.channel.specs.Advance.{advancedBy, linesBy, timeRefusal}
 use Rattle.channel.specs.Calls.{Call, verb, advance, advanceTo, callNumber, callChannel, channelAfter}
-use Rattle.traces.proofs.Laws.{on}
 use Rattle.settling.specs.Links.{cutByCall, cutAfter, NoLinkCut}
 use Rattle.settling.specs.Demand.{withServers, tableOf}
-use Rattle.settling.specs.Examples.{three, rolesOf, lent, allReady, lowerBeats, slowest, passing, twoPrimaries, start, Example, Examples}
+use Rattle.settling.specs.Examples.{rising, mixed, rolesOf, lent, allReady, lateReady, lowerBeats, slowest, passing, twoPrimaries, start, Example, Examples}
 
 -- ---- links that a list does not touch stay as they were
 
@@ -46,19 +46,14 @@ touches a b (verb Mend x y d) = eqb x a && eqb y b
 touches a b (advance d) = false
 touches a b (advanceTo t d) = false
 
-same-either : (t was : Bool) → choose t was was ≡ was
-unfolding choose
-same-either true was = refl
-same-either false was = refl
-
 untouched-one : (a b : ℕ) (k : Call) (was : Bool) → touches a b k ≡ false → cutByCall a b k was ≡ was
 unfolding touches cutByCall
-untouched-one a b (verb Start x y d) was e = same-either (eqb x a && eqb y b) was
-untouched-one a b (verb Ready x y d) was e = same-either (eqb x a && eqb y b) was
-untouched-one a b (verb Unready x y d) was e = same-either (eqb x a && eqb y b) was
-untouched-one a b (verb Pass x y d) was e = same-either (eqb x a && eqb y b) was
-untouched-one a b (verb Crash x y d) was e = same-either (eqb x a && eqb y b) was
-untouched-one a b (verb Restart x y d) was e = same-either (eqb x a && eqb y b) was
+untouched-one a b (verb Start x y d) was e = same-choice (eqb x a && eqb y b) was
+untouched-one a b (verb Ready x y d) was e = same-choice (eqb x a && eqb y b) was
+untouched-one a b (verb Unready x y d) was e = same-choice (eqb x a && eqb y b) was
+untouched-one a b (verb Pass x y d) was e = same-choice (eqb x a && eqb y b) was
+untouched-one a b (verb Crash x y d) was e = same-choice (eqb x a && eqb y b) was
+untouched-one a b (verb Restart x y d) was e = same-choice (eqb x a && eqb y b) was
 untouched-one a b (verb Cut x y d) was e = other true e
 untouched-one a b (verb Mend x y d) was e = other false e
 untouched-one a b (advance d) was e = refl
@@ -75,7 +70,7 @@ untouched a b c [] was none = refl
 untouched a b c (k ∷ ks) was (more e u) =
     let d = callChannel c k in
     let same : choose (eqb (callNumber c k) 0) (cutByCall a b k was) was ≡ was =
-    ap (λ (x : Bool). choose (eqb (callNumber c k) 0) x was) (untouched-one a b k was e) ∙ same-either (eqb (callNumber c k) 0) was in
+    ap (λ (x : Bool). choose (eqb (callNumber c k) 0) x was) (untouched-one a b k was e) ∙ same-choice (eqb (callNumber c k) 0) was in
     ap (cutAfter a b d ks) same ∙ untouched a b d ks was u
 
 -- six calls that make the servers ready
@@ -85,67 +80,78 @@ ready u = more refl (more refl (more refl (more refl (more refl (more refl u))))
 
 -- ---- what is said of the lists, as tests
 
-says : List Call → List ℕ → List ℕ → List ℕ → Bool
-says ks ended next settled =
-    eqb (channelAfter start ks .frame) 12
-    && (same (rolesOf (channelAfter start ks)) ended
-    && (same (rolesOf (advanced (channelAfter start ks))) next
-    && same (rolesOf (channelAfter (channelAfter start ks) (advanceTo 26 lent ∷ []))) settled))
+says : List Rank → List Call → List ℕ → List ℕ → List ℕ → Bool
+says rs ks ended next settled =
+    eqb (channelAfter (start rs) ks .frame) 12
+    && (same (rolesOf (channelAfter (start rs) ks)) ended
+    && (same (rolesOf (advanced (channelAfter (start rs) ks))) next
+    && same (rolesOf (channelAfter (channelAfter (start rs) ks) (advanceTo 26 lent ∷ []))) settled))
 
-example : (ks : List Call) (ended next settled : List ℕ) → says ks ended next settled ≡ true → NoLinkCut start ks → Example ks ended next settled
+example :
+    (rs : List Rank) (ks : List Call) (ended next settled : List ℕ) → freshRefusal (tableOf rs) 3 ≡ 0 → says rs ks ended next settled ≡ true →
+    NoLinkCut (start rs) ks → Example rs ks ended next settled
 unfolding says
-example ks ended next settled e u =
-    let f = snd-true (eqb (channelAfter start ks .frame) 12) _ e in
-    let g = snd-true (same (rolesOf (channelAfter start ks)) ended) _ f in
+example rs ks ended next settled taken e u =
+    let f = snd-true (eqb (channelAfter (start rs) ks .frame) 12) _ e in
+    let g = snd-true (same (rolesOf (channelAfter (start rs) ks)) ended) _ f in
     record {
+      table = taken;
       uncut = u;
-      ends = eqb-true _ _ (fst-true (eqb (channelAfter start ks .frame) 12) _ e);
+      ends = eqb-true _ _ (fst-true (eqb (channelAfter (start rs) ks .frame) 12) _ e);
       roles = same-equal _ _ (fst-true _ _ f);
       after = same-equal _ _ (fst-true _ _ g);
-      later = same-equal _ _ (snd-true (same (rolesOf (advanced (channelAfter start ks))) next) _ g);
+      later = same-equal _ _ (snd-true (same (rolesOf (advanced (channelAfter (start rs) ks))) next) _ g);
     }
 
 -- all of them, the one frame sooner, and the one link that two of them cut and mend
 computed :
-    (says lowerBeats (5 ∷ 3 ∷ 3 ∷ []) (5 ∷ 3 ∷ 3 ∷ []) (5 ∷ 3 ∷ 3 ∷ [])
-    && (says slowest (3 ∷ 5 ∷ 3 ∷ []) (3 ∷ 3 ∷ 3 ∷ []) (3 ∷ 3 ∷ 5 ∷ [])
-    && (says passing (3 ∷ 3 ∷ 3 ∷ []) (4 ∷ 3 ∷ 3 ∷ []) (5 ∷ 3 ∷ 3 ∷ [])
-    && (says twoPrimaries (3 ∷ 5 ∷ 5 ∷ []) (3 ∷ 3 ∷ 5 ∷ []) (3 ∷ 3 ∷ 5 ∷ [])
-    && (same (rolesOf (channelAfter (channelAfter start slowest) (advanceTo 25 lent ∷ []))) (3 ∷ 3 ∷ 4 ∷ [])
-    && (not (cutAfter 3 2 start slowest false) && not (cutAfter 3 2 start twoPrimaries false))))))) ≡ true
+    (says rising lowerBeats (5 ∷ 3 ∷ 3 ∷ []) (5 ∷ 3 ∷ 3 ∷ []) (5 ∷ 3 ∷ 3 ∷ [])
+    && (says rising slowest (3 ∷ 5 ∷ 3 ∷ []) (3 ∷ 3 ∷ 3 ∷ []) (3 ∷ 3 ∷ 5 ∷ [])
+    && (says mixed lateReady (3 ∷ 3 ∷ 3 ∷ []) (3 ∷ 3 ∷ 3 ∷ []) (3 ∷ 5 ∷ 3 ∷ [])
+    && (says rising passing (3 ∷ 3 ∷ 3 ∷ []) (4 ∷ 3 ∷ 3 ∷ []) (5 ∷ 3 ∷ 3 ∷ [])
+    && (says rising twoPrimaries (3 ∷ 5 ∷ 5 ∷ []) (3 ∷ 3 ∷ 5 ∷ []) (3 ∷ 3 ∷ 5 ∷ [])
+    && (same (rolesOf (channelAfter (channelAfter (start rising) slowest) (advanceTo 25 lent ∷ []))) (3 ∷ 3 ∷ 4 ∷ [])
+    && (not (cutAfter 3 2 (start rising) slowest false) && not (cutAfter 3 2 (start rising) twoPrimaries false)))))))) ≡ true
 unfolding says choose same digits label higher oneMore sentBy sentAny after forThis backupHears prospectHears primaryHears afterSilent afterBeating afterRising from enters entering verbHappens verbAnswer numberIn channelIn placeIn standsBefore enter addRefusal added line linesOf hearsFrom comes nextAmong nextSender sendersAfter sentByAll inbox heardAll heardLines timedLines hearing turned turnLines turnsLines advanced frameLines namesNobody known stateRefusal verbRefusal did advancedBy linesBy timeRefusal callChannel callNumber channelAfter withServers cutAfter cutByCall
 computed = refl
 
 -- a list that cuts and mends the link from 3 to 2, and no other
-mended : (ks : List Call) → cutAfter 3 2 start ks false ≡ false → ((a b : ℕ) → (eqb 3 a && eqb 2 b) ≡ false → Untouched a b ks) → NoLinkCut start ks
-mended ks e u a b =
+mended :
+    (rs : List Rank) (ks : List Call) → cutAfter 3 2 (start rs) ks false ≡ false → ((a b : ℕ) → (eqb 3 a && eqb 2 b) ≡ false → Untouched a b ks) →
+    NoLinkCut (start rs) ks
+mended rs ks e u a b =
     on (tested (eqb 3 a && eqb 2 b))
     (λ t.
     let x = eqb-true 3 a (fst-true (eqb 3 a) (eqb 2 b) t) in
     let y = eqb-true 2 b (snd-true (eqb 3 a) (eqb 2 b) t) in
-    ap (λ (n : ℕ). cutAfter n b start ks false) (sym x) ∙ ap (λ (n : ℕ). cutAfter 3 n start ks false) (sym y) ∙ e)
-    (λ t. untouched a b start ks false (u a b t))
+    ap (λ (n : ℕ). cutAfter n b (start rs) ks false) (sym x) ∙ ap (λ (n : ℕ). cutAfter 3 n (start rs) ks false) (sym y) ∙ e)
+    (λ t. untouched a b (start rs) ks false (u a b t))
 
-taken : freshRefusal (tableOf three) 3 ≡ 0
+rising-taken : freshRefusal (tableOf rising) 3 ≡ 0
 unfolding choose freshRefusal takePeriod placeIn standsBefore enter addRefusal added withServers
-taken = refl
+rising-taken = refl
+
+mixed-taken : freshRefusal (tableOf mixed) 3 ≡ 0
+unfolding choose freshRefusal takePeriod placeIn standsBefore enter addRefusal added withServers
+mixed-taken = refl
 
 pub examples : Examples
 unfolding touches
 examples =
-    let c1 = snd-true (says lowerBeats (5 ∷ 3 ∷ 3 ∷ []) (5 ∷ 3 ∷ 3 ∷ []) (5 ∷ 3 ∷ 3 ∷ [])) _ computed in
-    let c2 = snd-true (says slowest (3 ∷ 5 ∷ 3 ∷ []) (3 ∷ 3 ∷ 3 ∷ []) (3 ∷ 3 ∷ 5 ∷ [])) _ c1 in
-    let c3 = snd-true (says passing (3 ∷ 3 ∷ 3 ∷ []) (4 ∷ 3 ∷ 3 ∷ []) (5 ∷ 3 ∷ 3 ∷ [])) _ c2 in
-    let c4 = snd-true (says twoPrimaries (3 ∷ 5 ∷ 5 ∷ []) (3 ∷ 3 ∷ 5 ∷ []) (3 ∷ 3 ∷ 5 ∷ [])) _ c3 in
-    let c5 = snd-true (same (rolesOf (channelAfter (channelAfter start slowest) (advanceTo 25 lent ∷ []))) (3 ∷ 3 ∷ 4 ∷ [])) _ c4 in
+    let c1 = snd-true (says rising lowerBeats (5 ∷ 3 ∷ 3 ∷ []) (5 ∷ 3 ∷ 3 ∷ []) (5 ∷ 3 ∷ 3 ∷ [])) _ computed in
+    let c2 = snd-true (says rising slowest (3 ∷ 5 ∷ 3 ∷ []) (3 ∷ 3 ∷ 3 ∷ []) (3 ∷ 3 ∷ 5 ∷ [])) _ c1 in
+    let c3 = snd-true (says mixed lateReady (3 ∷ 3 ∷ 3 ∷ []) (3 ∷ 3 ∷ 3 ∷ []) (3 ∷ 5 ∷ 3 ∷ [])) _ c2 in
+    let c4 = snd-true (says rising passing (3 ∷ 3 ∷ 3 ∷ []) (4 ∷ 3 ∷ 3 ∷ []) (5 ∷ 3 ∷ 3 ∷ [])) _ c3 in
+    let c5 = snd-true (says rising twoPrimaries (3 ∷ 5 ∷ 5 ∷ []) (3 ∷ 3 ∷ 5 ∷ []) (3 ∷ 3 ∷ 5 ∷ [])) _ c4 in
+    let c6 = snd-true (same (rolesOf (channelAfter (channelAfter (start rising) slowest) (advanceTo 25 lent ∷ []))) (3 ∷ 3 ∷ 4 ∷ [])) _ c5 in
     record {
-      table = taken;
-      lower-beats = example lowerBeats _ _ _ (fst-true _ _ computed)
-          (λ a b. untouched a b start lowerBeats false (more refl (more refl (more refl (more refl (more refl (more refl (more refl none))))))));
-      takes-all = example slowest _ _ _ (fst-true _ _ c1)
-          (mended slowest (not-true _ (fst-true _ _ c5)) (λ a b t. ready (more refl (more t (more refl (more refl (more t none)))))));
-      passes = example passing _ _ _ (fst-true _ _ c2) (λ a b. untouched a b start passing false (ready (more refl (more refl none))));
-      two-beat = example twoPrimaries _ _ _ (fst-true _ _ c3)
-          (mended twoPrimaries (not-true _ (snd-true (not (cutAfter 3 2 start slowest false)) _ c5)) (λ a b t. ready (more refl (more t (more refl (more t none))))));
-      needs-all = same-equal _ _ (fst-true _ _ c4);
+      lower-beats = example rising lowerBeats _ _ _ rising-taken (fst-true _ _ computed)
+          (λ a b. untouched a b (start rising) lowerBeats false (more refl (more refl (more refl (more refl (more refl (more refl (more refl none))))))));
+      takes-all = example rising slowest _ _ _ rising-taken (fst-true _ _ c1)
+          (mended rising slowest (not-true _ (fst-true _ _ c6)) (λ a b t. ready (more refl (more t (more refl (more refl (more t none)))))));
+      by-priority = example mixed lateReady _ _ _ mixed-taken (fst-true _ _ c2) (λ a b. untouched a b (start mixed) lateReady false (more refl (ready none)));
+      passes = example rising passing _ _ _ rising-taken (fst-true _ _ c3) (λ a b. untouched a b (start rising) passing false (ready (more refl (more refl none))));
+      two-beat = example rising twoPrimaries _ _ _ rising-taken (fst-true _ _ c4)
+          (mended rising twoPrimaries (not-true _ (snd-true (not (cutAfter 3 2 (start rising) slowest false)) _ c6)) (λ a b t. ready (more refl (more t (more refl (more t none))))));
+      needs-all = same-equal _ _ (fst-true _ _ c5);
     }

@@ -8,18 +8,17 @@ use borrow.Author.Tests.{eq-eqb, lt-ltb}
 use lib.Dec.{eqb}
 use lib.ListN.{length, replicate}
 use Rattle.lists.specs.Choice.{choose}
-use Rattle.lists.proofs.Cases.{tested, less, chosen, other, and-true, and-left, and-right, fst-true, snd-true}
+use Rattle.lists.specs.Lists.{count}
+use Rattle.lists.proofs.Cases.{tested, less, chosen, other, and-true, and-left, and-right, fst-true, snd-true, on}
+use Rattle.lists.proofs.Counting.{count-lt, count-size}
 use Rattle.heartbeat.specs.declared.Heartbeat.{Heartbeat}
 use Rattle.heartbeat.proofs.Order.{irreflexive}
 use Rattle.server.specs.declared.Server.{Server}
 use Rattle.server.specs.Server.{rankOf, plainOf, revealOf, passOf, sentBy}
 use Rattle.channel.specs.declared.Channel.{Channel}
 use Rattle.channel.specs.Hearing.{place, hearsFrom, noPlace, nextSender, sendersAfter, sentByAll, senders, inbox}
-use Rattle.traces.specs.Facts.{count}
-use Rattle.traces.proofs.Laws.{on}
-use Rattle.traces.proofs.Order.{count-lt, count-size}
-use Rattle.settling.proofs.Next.{Apart, waits, next-first}
-use Rattle.settling.proofs.Senders.{some-next, none-next, under-trans}
+use Rattle.channel.proofs.Next.{Apart, waits, next-first}
+use Rattle.channel.proofs.Senders.{some-next, none-next, under-trans}
 
 -- ---- senders
 

@@ -7,8 +7,8 @@ use Prim.Native.Nat.{ℕ}
 use borrow.Author.Tests.{eq-eqb, eqb-true, not-true}
 use lib.Dec.{eqb}
 use Rattle.lists.specs.Lists.{all}
-use Rattle.lists.proofs.Cases.{tested, chosen, other, and-left, and-right, fst-true, snd-true}
-use Rattle.lists.proofs.Clear.{all-weaker, all-front, all-back}
+use Rattle.lists.proofs.Cases.{tested, chosen, other, and-left, and-right, fst-true, snd-true, on, clash}
+use Rattle.lists.proofs.Clear.{all-weaker, all-front, all-back, all-mem}
 use Rattle.heartbeat.specs.declared.Heartbeat.{Heartbeat}
 use Rattle.heartbeat.specs.Heartbeat.{sender, isSet}
 use Rattle.heartbeat.proofs.Order.{asymmetric}
@@ -19,10 +19,8 @@ use Rattle.server.specs.Server.{rankOf, inRole, setSilence, toProspect, sendRev
 use Rattle.server.specs.Hearing.{fromHigher, fromLower, forThis, backupHears, prospectHears, primaryHears, hearsIn, attending, heard}
 use Rattle.channel.specs.Frame.{heardAll}
 use Rattle.traces.specs.Trace.{isActive, isBeating}
-use Rattle.traces.proofs.Laws.{on, clash}
 use Rattle.traces.proofs.Ways.{beating}
-use Rattle.settling.proofs.Sent.{all-mem}
-use Rattle.settling.proofs.Inbox.{Falls}
+use Rattle.channel.proofs.Inbox.{Falls}
 
 -- a server after hearing h in frame t, by its role
 pub hear-as : (t : ℕ) (s : Server) (h : Heartbeat) {r : Role} → s .role ≡ r → heard t s h .server ≡ after t (attending t r s) (hearsIn r s h)

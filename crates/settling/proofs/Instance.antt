@@ -4,20 +4,21 @@ use mathlib.Core.Path.{_≡_, refl, sym, ap, subst, _∙_}
 use Prim.Native.Nat.{ℕ, zero, suc, _-_, _<_, _≤_}
 use native.Mathlib.Omega.{arith}
 use borrow.Author.Tests.{ne-eqb}
-use Rattle.lists.proofs.Cases.{tested}
+use Rattle.lists.specs.Lists.{count}
+use Rattle.lists.proofs.Cases.{tested, on, clash}
+use Rattle.lists.proofs.Counting.{count-le}
 use Rattle.heartbeat.proofs.Order as ranks
 use Rattle.server.specs.declared.Period.{Period}
 use Rattle.server.specs.Period.{silenceLimit, prospectLimit, beatLimit}
 use Rattle.server.specs.Server.{rankOf, sentAny}
+use Rattle.server.proofs.Sent.{reveal-any}
+use Rattle.server.proofs.Limits.{silence-limit, prospect-limit}
 use Rattle.channel.specs.declared.Channel.{Channel}
 use Rattle.channel.specs.Hearing.{place, over}
 use Rattle.traces.specs.Trace.{Trace, isActive, activeAt0}
-use Rattle.traces.specs.Facts.{Order, count, Limits, Ages, FirstStep, QuietStep, Facts}
+use Rattle.traces.specs.Facts.{Order, Limits, Ages, FirstStep, QuietStep, Facts}
 use Rattle.traces.specs.Settling.{Settled}
-use Rattle.traces.proofs.Laws.{on, clash}
 use Rattle.traces.proofs.Settle.{settles}
-use Rattle.settling.proofs.Sent.{reveal-any}
-use Rattle.traces.proofs.Order.{count-le}
 use Rattle.settling.proofs.Young.{Young}
 use Rattle.settling.proofs.Sound.{Sound, seatedIn, AllWhole, nothing-sent, rests, active-kept, revealer}
 use Rattle.settling.proofs.Run.{runs, traceOf, sound-runs, period-run, no-pass-run}
@@ -50,7 +51,7 @@ module _ (c : Channel) (sound : Sound c) (links : AllWhole c) where
       count-le (activeAt0 t) (seatedIn c) 16
       (λ i l a. ap not (ne-eqb (place c i .identity) 0 (sound .seated i l (sym (active-first i) ∙ a)))) in
       let f = sound .fits in
-      record { period = sound .period; fits = omega arith; silence-limit = omega arith; prospect-limit = omega arith }
+      record { period = sound .period; fits = omega arith; silence-limit = silence-limit p; prospect-limit = prospect-limit p }
 
   first-step : (i : ℕ) → i < 16 → FirstStep t i
   unfolding runs

@@ -6,7 +6,7 @@ use Prim.Native.Nat.{ℕ, _+_, _<_, _≤_}
 use native.Mathlib.Omega.{arith}
 use borrow.Author.Tests.{eq-eqb, ne-eqb}
 use Rattle.lists.specs.Lists.{all}
-use Rattle.lists.proofs.Cases.{tested, equal, chosen, other, fst-true, snd-true}
+use Rattle.lists.proofs.Cases.{tested, equal, chosen, other, fst-true, snd-true, on, clash}
 use Rattle.heartbeat.specs.declared.Heartbeat.{Heartbeat}
 use Rattle.heartbeat.specs.declared.Rank.{Rank}
 use Rattle.heartbeat.specs.Rank.{higher}
@@ -23,9 +23,8 @@ use Rattle.server.specs.Hearing.{fromHigher, fromLower, forThis, backupHears, p
 use Rattle.server.specs.Timers.{aged, silent, beating, rising, afterSilent, afterBeating, afterRising, timed}
 use Rattle.channel.specs.Frame.{heardAll}
 use Rattle.traces.specs.Trace.{isActive, isBeating}
-use Rattle.traces.proofs.Laws.{on, clash}
 use Rattle.traces.proofs.Ways as ways
-use Rattle.settling.proofs.Inbox.{Falls}
+use Rattle.channel.proofs.Inbox.{Falls}
 use Rattle.settling.proofs.Heard.{hear-as, stay-all, heard-append, higher-no-call}
 use Rattle.settling.proofs.Ticks.{ticks-rest, ticks-wait, woken, ticks-wake, beaten, ticks-primary, ticks-prospect, ticks-ripe}
 use Rattle.settling.proofs.Young.{Due, Young, IsHearing, nothing, backs, beats, reveals, notes, hears-only}

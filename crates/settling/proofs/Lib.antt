@@ -1,8 +1,3 @@
-pub mod Places
-pub mod Next
-pub mod Senders
-pub mod Sent
-pub mod Inbox
 pub mod Heard
 pub mod Young
 pub mod Ticks

@@ -9,7 +9,7 @@ use lib.Dec.{eqb}
 use lib.ListN.{length, getD, set}
 use Rattle.lists.specs.Choice.{choose}
 use Rattle.lists.specs.Lists.{indexWhere}
-use Rattle.lists.proofs.Cases.{tested, equal, chosen, other, and-true, and-left, and-right, fst-true, snd-true}
+use Rattle.lists.proofs.Cases.{tested, equal, chosen, other, and-true, and-left, and-right, fst-true, snd-true, on, not-first, same-choice, or-false}
 use Rattle.server.specs.declared.Verb.{Verb}
 use Rattle.server.specs.declared.Verb.the-variants.{Start, Ready, Unready, Pass, Crash, Restart, Cut, Mend}
 use Rattle.server.specs.declared.Server.{Server}
@@ -23,10 +23,8 @@ use Rattle.channel.specs.Frame.{advanced}
 use Rattle.channel.specs.Verbs.{placeOf, inTable, namesNobody, known, stateRefusal, verbRefusal, did}
 use Rattle.channel.specs.Advance.{advancedBy}
 use Rattle.channel.specs.Calls.{Call, verb, advance, advanceTo, outcomeOf, sliceOf, callNumber, callChannel, channelAfter}
-use Rattle.traces.proofs.Laws.{on}
 use Rattle.settling.specs.Links.{cutByVerb, cutByCall, cutAfter}
 use Rattle.settling.proofs.Sound.{Sound, sound-advanced, identity-kept}
-use Rattle.settling.proofs.Made.{no-refusal, or-false}
 use Rattle.settling.proofs.Reached.{set-cases, handed, identity-did, sound-call}
 
 set-here : {A : Type 0} (l : List A) (i : ℕ) (x d : A) → i < length l → getD (set l i x) i d ≡ x
@@ -126,7 +124,7 @@ module _ (c : Channel) (sound : Sound c) where
   named-two : (v : Verb) (x y : ℕ) → paired v ≡ true → verbRefusal c v x y ≡ 0 → (x ≡ 0 → ⊥) × (y ≡ 0 → ⊥) × (inTable c x ≡ true) × (inTable c y ≡ true)
   unfolding verbRefusal namesNobody known
   named-two v x y two e =
-      let a = no-refusal (namesNobody v x y) 2 _ (λ z. omega arith) e in
+      let a = not-first (λ (k : ℕ). k ≡ 0) (namesNobody v x y) e (λ z. omega arith) in
       let b = or-false (eqb x 0) (paired v && eqb y 0) (a .0) in
       let yz : eqb y 0 ≡ false = sym (ap (λ (t : Bool). t && eqb y 0) two) ∙ b .1 in
       let kn = is-known (a .1) in
@@ -147,17 +145,14 @@ module _ (c : Channel) (sound : Sound c) where
     abbrev b : ℕ
     b = place c j .identity
 
-    unchanged : (t : Bool) → choose t was was ≡ was
-    unchanged t = on (tested t) (λ e. chosen was e) (λ e. other was e)
-
     cut-verb : (v : Verb) (x y : ℕ) → verbRefusal c v x y ≡ 0 → whole (did c v x y) i j ≡ not (choose (eqb x a && eqb y b) (cutByVerb v was) was)
     unfolding did
-    cut-verb Start x y e = w ∙ ap not (sym (unchanged (eqb x a && eqb y b)))
-    cut-verb Ready x y e = w ∙ ap not (sym (unchanged (eqb x a && eqb y b)))
-    cut-verb Unready x y e = w ∙ ap not (sym (unchanged (eqb x a && eqb y b)))
-    cut-verb Pass x y e = w ∙ ap not (sym (unchanged (eqb x a && eqb y b)))
-    cut-verb Crash x y e = w ∙ ap not (sym (unchanged (eqb x a && eqb y b)))
-    cut-verb Restart x y e = w ∙ ap not (sym (unchanged (eqb x a && eqb y b)))
+    cut-verb Start x y e = w ∙ ap not (sym (same-choice (eqb x a && eqb y b) was))
+    cut-verb Ready x y e = w ∙ ap not (sym (same-choice (eqb x a && eqb y b) was))
+    cut-verb Unready x y e = w ∙ ap not (sym (same-choice (eqb x a && eqb y b) was))
+    cut-verb Pass x y e = w ∙ ap not (sym (same-choice (eqb x a && eqb y b) was))
+    cut-verb Crash x y e = w ∙ ap not (sym (same-choice (eqb x a && eqb y b) was))
+    cut-verb Restart x y e = w ∙ ap not (sym (same-choice (eqb x a && eqb y b) was))
     cut-verb Cut x y e = let n = named-two Cut x y refl e in linked-as x y i j true (n .0) (n .1) (n .2) (n .3) li lj was w
     cut-verb Mend x y e = let n = named-two Mend x y refl e in linked-as x y i j false (n .0) (n .1) (n .2) (n .3) li lj was w
 

@@ -1,16 +1,17 @@
 -- A table made by adding servers has them in rising identity, all idle; the fresh channel is sound. Assumes nothing.
-use mathlib.Core.Bool.{Bool, true, false, not, _&&_, _||_}
+use mathlib.Core.Bool.{true, false, not, _&&_}
 use mathlib.Core.Path.{_≡_, refl, sym, ap, subst, _∙_}
 use mathlib.Core.Logic.{_⊎_, inl, inr}
 use mathlib.Core.List.{List, [], _∷_}
-use Prim.Native.Nat.{ℕ, zero, suc, _+_, _*_, _<_, _≤_}
+use Prim.Native.Nat.{ℕ, zero, suc, _*_, _<_, _≤_}
 use native.Mathlib.Omega.{arith}
 use borrow.Author.Tests.{eq-eqb, ne-eqb, eqb-true, eqb-false, ltb-true, ltb-false, leb-true}
 use lib.Dec.{ltb, leb, eqb}
 use lib.ListN.{length, getD, replicate, length-replicate}
 use Rattle.lists.specs.Choice.{choose}
-use Rattle.lists.specs.Lists.{indexWhere}
-use Rattle.lists.proofs.Cases.{tested, less, equal, chosen, other, fst-true}
+use Rattle.lists.specs.Lists.{indexWhere, count}
+use Rattle.lists.proofs.Cases.{tested, less, equal, chosen, other, fst-true, on, clash, by-choice, not-first, or-true, or-false}
+use Rattle.lists.proofs.Counting.{count-shift}
 use Rattle.refusal.specs.Answer.{Answer, accepted, refused}
 use Rattle.server.specs.declared.Server.{Server}
 use Rattle.server.specs.Period.{leastPeriod, greatestPeriod, takePeriod}
@@ -19,8 +20,6 @@ use Rattle.channel.specs.declared.Table.{Table}
 use Rattle.channel.specs.Table.{most, empty, isEmpty, counted, named, placeIn, isIn, standsBefore, enter, addRefusal, added, freshRefusal, fresh}
 use Rattle.channel.specs.Hearing.{place}
 use Rattle.traces.specs.Trace.{isActive}
-use Rattle.traces.specs.Facts.{count}
-use Rattle.traces.proofs.Laws.{on, clash}
 use Rattle.traces.proofs.Ways as ways
 use Rattle.settling.proofs.Sound.{Sound, seatedIn}
 
@@ -42,17 +41,13 @@ every-both : {P Q R : Server → Type 0} {l : List Server} → ((s : Server) →
 every-both f none none = none
 every-both f (more {s} x h) (more y k) = more (f s x y) (every-both f h k)
 
-choice-of : (P : Server → Type 0) (b : Bool) {x y : Server} → P x → P y → P (choose b x y)
-unfolding choose
-choice-of P true h k = h
-choice-of P false h k = k
-
 -- whoever enters, the servers are those of before and the new one
 every-enter : {P : Server → Type 0} (n : Server) (l : List Server) → P n → Every P l → Every P (enter n l)
 unfolding enter
 every-enter n [] x none = none
 every-enter {P} n (s ∷ l) x (more y h) =
-    more (choice-of P (standsBefore n s) x y) (every-enter (choose (standsBefore n s) s n) l (choice-of P (standsBefore n s) y x) h)
+    more (by-choice P (standsBefore n s) (λ _. x) (λ _. y))
+    (every-enter (choose (standsBefore n s) s n) l (by-choice P (standsBefore n s) (λ _. y) (λ _. x)) h)
 
 -- ---- rising identities
 
@@ -67,14 +62,6 @@ pub data Rising : List Server → Type 0 where
 -- n is not in the list; if n is an empty place, the list is of empty places
 pub Apart : Server → Server → Type 0
 Apart n x = (x .identity ≡ 0) ⊎ ((n .identity ≡ 0 → ⊥) × (x .identity ≡ n .identity → ⊥))
-
-or-true : (a b : Bool) → (a || b) ≡ true → (a ≡ true) ⊎ (b ≡ true)
-or-true true b e = inl refl
-or-true false b e = inr e
-
-pub or-false : (a b : Bool) → (a || b) ≡ false → (a ≡ false) × (b ≡ false)
-or-false true b e = absurd (clash refl e)
-or-false false b e = (refl, e)
 
 before : (n s : Server) → standsBefore n s ≡ true → (s .identity ≡ 0) ⊎ (n .identity < s .identity)
 unfolding standsBefore
@@ -181,19 +168,12 @@ not-found i (s ∷ l) h =
     let z = other {t = named i s} {b = suc (indexWhere (named i) l)} 0 (ne-eqb (s .identity) i e) in
     more e (not-found i l (omega arith)))
 
--- a choice of a refusal or of what is 0
-pub no-refusal : (b : Bool) (n x : ℕ) → (n ≡ 0 → ⊥) → choose b n x ≡ 0 → (b ≡ false) × (x ≡ 0)
-no-refusal b n x h e =
-    on (tested b)
-    (λ q. absurd (h (sym (chosen {a = n} x q) ∙ e)))
-    (λ q. (q, sym (other {b = x} n q) ∙ e))
-
 -- a server that may be added has an identity, and none has the same
 may-add : (t : Table) (i : ℕ) → Neat t → addRefusal t i ≡ 0 → (i ≡ 0 → ⊥) × Every (λ s. s .identity ≡ i → ⊥) (t .servers)
 unfolding addRefusal placeIn
 may-add t i n e =
-    let a = no-refusal (eqb i 0) 2 _ (λ z. omega arith) e in
-    let b = no-refusal (isIn (t .servers) i) 5 _ (λ z. omega arith) (a .1) in
+    let a = not-first (λ (k : ℕ). k ≡ 0) (eqb i 0) e (λ z. omega arith) in
+    let b = not-first (λ (k : ℕ). k ≡ 0) (isIn (t .servers) i) (a .1) (λ z. omega arith) in
     let l = ltb-false (indexWhere (named i) (t .servers)) most (b .0) in
     let g = n .long in
     (eqb-false i 0 (a .0), not-found i (t .servers) (omega arith))
@@ -218,14 +198,7 @@ neat-added t i p n =
 
 -- ---- the fresh channel
 
--- the servers of a list, counted by place from k on
-count-shift : (p : ℕ → Bool) (n : ℕ) → count p (suc n) ≡ choose (p 0) 1 0 + count (λ i. p (suc i)) n
-unfolding count choose
-count-shift p zero = on (tested (p 0)) (λ e. rw e) (λ e. rw e)
-count-shift p (suc n) =
-    let e = count-shift p n in
-    on (tested (p (suc n))) (λ q. rw q (omega (arith, e))) (λ q. rw q e)
-
+-- the servers of a list, counted by place
 counted-places : (l : List Server) → counted l ≡ count (λ i. not (eqb (getD l i absent .identity) 0)) (length l)
 unfolding count
 counted-places [] = refl
@@ -264,8 +237,8 @@ module _ (t : Table) (n : ℕ) (neat : Neat t) (taken : freshRefusal t n ≡ 0) 
   unfolding freshRefusal
   room =
       let a = sym (chosen {a = choose (eqb (counted (t .servers)) 0) 6 (choose (ltb n (counted (t .servers))) 7 0)} 2 (eq-eqb (takePeriod n .number) 0 is-period)) ∙ taken in
-      let b = no-refusal (eqb (counted (t .servers)) 0) 6 _ (λ z. omega arith) a in
-      let d = no-refusal (ltb n (counted (t .servers))) 7 0 (λ z. omega arith) (b .1) in
+      let b = not-first (λ (k : ℕ). k ≡ 0) (eqb (counted (t .servers)) 0) a (λ z. omega arith) in
+      let d = not-first (λ (k : ℕ). k ≡ 0) (ltb n (counted (t .servers))) (b .1) (λ z. omega arith) in
       ltb-false n (counted (t .servers)) (d .0)
 
   new-at : (i : ℕ) → New (place (fresh t n) i)

@@ -6,7 +6,7 @@ use Prim.Native.Nat.{ℕ, suc, _+_, _-_, _<_, _≤_}
 use native.Mathlib.Omega.{arith}
 use borrow.Author.Tests.{eq-eqb, ne-eqb}
 use Rattle.lists.specs.Choice.{choose}
-use Rattle.lists.proofs.Cases.{equal, chosen, other}
+use Rattle.lists.proofs.Cases.{equal, chosen, other, on}
 use Rattle.server.specs.declared.Role.the-variants.{Backup, Prospect, Primary}
 use Rattle.server.specs.declared.Period.{Period}
 use Rattle.server.specs.declared.Server.{Server}
@@ -18,9 +18,8 @@ use Rattle.channel.specs.Hearing.{place, inbox}
 use Rattle.channel.specs.Frame.{heardAll, advanced}
 use Rattle.traces.specs.Trace.{isActive, isBeating, HearsHigher, HearsLowReveal, HearsAny}
 use Rattle.traces.specs.Facts.{Hushed, Raised, Waited, BeatsOn, QuietStep}
-use Rattle.traces.proofs.Laws.{on}
 use Rattle.traces.proofs.Ways as ways
-use Rattle.settling.proofs.Inbox.{Falls}
+use Rattle.channel.proofs.Inbox.{Falls}
 use Rattle.settling.proofs.Heard.{backed, raised, attended, backup-raised, beater-stays, beater-backs, beater-raised}
 use Rattle.settling.proofs.Young.{Young}
 use Rattle.settling.proofs.Ticks.{ticks-wait, ticks-wake, beaten, ticks-primary, ticks-prospect, ticks-ripe}

@@ -9,7 +9,9 @@ use borrow.Author.Tests.{eq-eqb, ne-eqb}
 use lib.Dec.{eqb}
 use lib.ListN.{length, getD, set, length-set}
 use Rattle.lists.specs.Choice.{choose}
-use Rattle.lists.proofs.Cases.{equal, chosen, other}
+use Rattle.lists.specs.Lists.{count}
+use Rattle.lists.proofs.Cases.{equal, chosen, other, on, clash, by-choice}
+use Rattle.lists.proofs.Counting.{count-le}
 use Rattle.refusal.specs.Answer.{Answer}
 use Rattle.heartbeat.specs.declared.Rank.{Rank}
 use Rattle.server.specs.declared.Role.{Role}
@@ -30,10 +32,7 @@ use Rattle.channel.specs.Verbs.{placeOf, happens, linksAfter, did}
 use Rattle.channel.specs.Advance.{advancedBy}
 use Rattle.channel.specs.Calls.{Call, verb, advance, advanceTo, outcomeOf, sliceOf, callChannel, channelAfter}
 use Rattle.traces.specs.Trace.{isActive, isBeating}
-use Rattle.traces.proofs.Laws.{on, clash}
 use Rattle.traces.proofs.Ways as ways
-use Rattle.traces.specs.Facts.{count}
-use Rattle.traces.proofs.Order.{count-le}
 use Rattle.settling.proofs.Young.{Young, YoungIn}
 use Rattle.settling.proofs.Kept.{rank-after}
 use Rattle.settling.proofs.Sound.{Sound, seatedIn, sound-advanced}
@@ -59,14 +58,12 @@ pub data IsEntered : Event → Type 0 where
   downs : IsEntered ToDown
   passes : {b : ℕ} → IsEntered (Passed b)
 
-choice-entered : (b : Bool) {x y : Event} → IsEntered x → IsEntered y → IsEntered (choose b x y)
-unfolding choose
-choice-entered true h k = h
-choice-entered false h k = k
-
 entered : (k : ℕ) → IsEntered (entering k)
 unfolding entering
-entered k = choice-entered (eqb k 0) downs (choice-entered (eqb k 1) idles (choice-entered (eqb k 2) syncs backs))
+entered k =
+    by-choice IsEntered (eqb k 0)
+    (λ _. downs)
+    (λ _. by-choice IsEntered (eqb k 1) (λ _. idles) (λ _. by-choice IsEntered (eqb k 2) (λ _. syncs) (λ _. backs)))
 
 verb-entered : (v : Verb) (b k : ℕ) → IsEntered (verbEvent v b k)
 verb-entered Start b k = entered k
@@ -80,7 +77,7 @@ verb-entered Mend b k = nothing
 
 pub happens-entered : (v : Verb) (b : ℕ) (a : Answer) → IsEntered (verbHappens v b a)
 unfolding verbHappens
-happens-entered v b a = choice-entered (eqb (a .number) 0) (verb-entered v b (getD (a .values) 0 0)) nothing
+happens-entered v b a = by-choice IsEntered (eqb (a .number) 0) (λ _. verb-entered v b (getD (a .values) 0 0)) (λ _. nothing)
 
 -- to an empty place nothing happens
 pub absent-still : (v : Verb) (b : ℕ) (s : Server) → s .identity ≡ 0 → verbHappens v b (verbAnswer v b s) ≡ Nothing

@@ -1,13 +1,13 @@
 -- The frames of a channel as a trace, and who hears whom in it. Assumes nothing.
-use mathlib.Core.Bool.{Bool, true, false, not}
+use mathlib.Core.Bool.{true, false, not}
 use mathlib.Core.Path.{_≡_, refl, sym, ap, ap₂, subst, _∙_}
-use mathlib.Core.List.{List, [], _∷_, List·Memᴰ, List·Memᴰ·head, List·Memᴰ·tail}
+use mathlib.Core.List.{[], List·Memᴰ}
 use Prim.Native.Nat.{ℕ, zero, suc, _+_, _-_, _<_}
 use native.Mathlib.Omega.{arith}
 use borrow.Author.Tests.{eq-eqb, ne-eqb, eqb-false, not-true}
 use lib.Dec.{eqb}
-use Rattle.lists.specs.Lists.{all}
-use Rattle.lists.proofs.Cases.{tested, and-true, fst-true, snd-true}
+use Rattle.lists.proofs.Cases.{tested, and-true, fst-true, snd-true, on, clash}
+use Rattle.lists.proofs.Clear.{all-of}
 use Rattle.heartbeat.specs.declared.Rank.{Rank}
 use Rattle.heartbeat.specs.declared.Heartbeat.{Heartbeat}
 use Rattle.heartbeat.specs.Rank.{higher}
@@ -16,14 +16,13 @@ use Rattle.heartbeat.proofs.Order.{irreflexive}
 use Rattle.server.specs.declared.Server.{Server}
 use Rattle.server.specs.Server.{rankOf, cleared, revealOf, sentAny}
 use Rattle.server.specs.Hearing.{fromHigher, fromLower}
+use Rattle.server.proofs.Sent.{some-sent, reveal-sent, reveal-any, sent-rank, sent-reveal, sent-unmarked}
 use Rattle.channel.specs.declared.Channel.{Channel}
 use Rattle.channel.specs.Hearing.{place, over, hearsFrom, inbox}
 use Rattle.channel.specs.Frame.{advanced}
 use Rattle.traces.specs.Trace.{Trace, HearsHigher, HearsLowReveal, HearsAny}
-use Rattle.traces.proofs.Laws.{on, clash}
-use Rattle.settling.proofs.Next.{Apart}
-use Rattle.settling.proofs.Sent.{some-sent, reveal-sent, reveal-any, sent-rank, sent-reveal, sent-unmarked}
-use Rattle.settling.proofs.Inbox.{in-inbox, of-inbox}
+use Rattle.channel.proofs.Next.{Apart}
+use Rattle.channel.proofs.Inbox.{in-inbox, of-inbox}
 use Rattle.settling.proofs.Heard.{unmarkedAll, callsUp, noCall, empty?}
 use Rattle.settling.proofs.Sound.{Sound, NoPass, AllWhole, rank-kept, hears-apart, sound-advanced, no-pass}
 
@@ -44,11 +43,6 @@ traceOf c =
       sends = λ k i. sentAny (place (runs k c) i);
       reveals = λ k i. place (runs k c) i .reveal;
     }
-
--- a test that each element passes
-all-of : (p : Heartbeat → Bool) (l : List Heartbeat) → ((h : Heartbeat) → List·Memᴰ h l → p h ≡ true) → all p l ≡ true
-all-of p [] f = refl
-all-of p (x ∷ l) f = and-true (f x (List·Memᴰ·head refl)) (all-of p l (λ h m. f h (List·Memᴰ·tail m)))
 
 module _ (c : Channel) (sound : Sound c) (links : AllWhole c) where
   pub sound-runs : (k : ℕ) → Sound (runs k c)

@@ -1,5 +1,5 @@
 -- After any list of calls, every event of the next frame and every verb appends what it sends. Assumes nothing.
-use mathlib.Core.Bool.{Bool, true, false, _&&_, _||_}
+use mathlib.Core.Bool.{true, false, _&&_, _||_}
 use mathlib.Core.Path.{_≡_, refl, sym, ap, subst, _∙_}
 use mathlib.Core.Logic.{_⊎_, inl, inr}
 use mathlib.Core.List.{List, [], _∷_, _++_, append-nil}
@@ -10,8 +10,9 @@ use lib.Dec.{eqb, ltb}
 use lib.ListN.{getD, List·getD-eq-default}
 use Rattle.lists.specs.Choice.{choose}
 use Rattle.lists.specs.Lists.{all}
-use Rattle.lists.proofs.Cases.{tested, less, chosen, other, and-true, fst-true, snd-true}
-use Rattle.refusal.specs.Answer.{Answer, refused}
+use Rattle.lists.proofs.Cases.{tested, less, chosen, other, and-true, fst-true, snd-true, on, clash, by-choice, not-first, or-false}
+use Rattle.lists.proofs.Clear.{all-front}
+use Rattle.refusal.specs.Answer.{Answer}
 use Rattle.heartbeat.specs.declared.Rank.{Rank}
 use Rattle.heartbeat.specs.declared.Heartbeat.{Heartbeat}
 use Rattle.heartbeat.specs.Heartbeat.{isSet}
@@ -19,7 +20,6 @@ use Rattle.server.specs.declared.Role.{Role}
 use Rattle.server.specs.declared.Role.the-variants.{Down, Idle, Sync, Backup, Prospect, Primary}
 use Rattle.server.specs.declared.Verb.{Verb}
 use Rattle.server.specs.declared.Verb.the-variants.{Start, Ready, Unready, Pass, Crash, Restart, Cut, Mend}
-use Rattle.server.specs.declared.Event.{Event}
 use Rattle.server.specs.declared.Event.the-variants.{Nothing, ToBackup, ToProspectBeat, ToProspectReveal, Lower, Beat}
 use Rattle.server.specs.declared.Period.{Period}
 use Rattle.server.specs.declared.Server.{Server}
@@ -35,15 +35,14 @@ use Rattle.channel.specs.Frame.{heardAll}
 use Rattle.channel.specs.Verbs.{placeOf, happens}
 use Rattle.channel.specs.Calls.{channelAfter}
 use Rattle.traces.specs.Trace.{isActive, isBeating}
-use Rattle.traces.proofs.Laws.{on, clash}
 use Rattle.traces.proofs.Ways as ways
 use Rattle.settling.specs.Demand.{tableOf}
 use Rattle.settling.specs.Sending.{Appends, TimersAppend, InOrderSent, SentInOrder}
-use Rattle.settling.proofs.Inbox.{Falls}
+use Rattle.channel.proofs.Inbox.{Falls}
 use Rattle.settling.proofs.Heard.{rest-all}
 use Rattle.settling.proofs.Kept.{rank-heard, RevealerBeats, unrevealed, revealer-heard}
 use Rattle.settling.proofs.Sound.{Sound, hears-falls, hears-apart}
-use Rattle.settling.proofs.Made.{or-false, neat-empty, sound-fresh}
+use Rattle.settling.proofs.Made.{neat-empty, sound-fresh}
 use Rattle.settling.proofs.Reached.{sound-after}
 use Rattle.settling.proofs.Demand.{neat-with}
 use Rattle.settling.proofs.Few.{marks, marked, marked-append, few-marked}
@@ -88,12 +87,6 @@ unfolding after
 midway-beat t s k m =
     record { unpassed = m .unpassed; few = let l = m .few in let b = more-beats (s .beats) in omega (arith, l, b); timer = inr refl }
 
--- what holds of either event of a choice holds of the choice
-chosen-event : (P : Event → Type 0) (b : Bool) {x y : Event} → (b ≡ true → P x) → (b ≡ false → P y) → P (choose b x y)
-unfolding choose
-chosen-event P true f g = f refl
-chosen-event P false f g = g refl
-
 -- one heartbeat, in each role
 midway-as :
     (t : ℕ) (s : Server) (h : Heartbeat) (k : ℕ) (r : Role) → Midway t s k →
@@ -105,21 +98,21 @@ midway-as t s h k Sync m = midway-nothing t s k _ m
 midway-as t s h k Backup m =
     let x = setSilence t s in
     let n : Midway t x k = record { unpassed = m .unpassed; few = m .few; timer = m .timer } in
-    chosen-event (λ e. Midway t (after t x e) (k + choose (marks (s .identity) h) 1 0)) (marks (s .identity) h)
+    by-choice (λ e. Midway t (after t x e) (k + choose (marks (s .identity) h) 1 0)) (marks (s .identity) h)
     (λ e. subst (λ (j : ℕ). Midway t (after t x ToProspectBeat) (k + j)) (sym (chosen 0 e)) (midway-beat t x k n))
     (λ e.
-    chosen-event (λ v. Midway t (after t x v) (k + choose (marks (s .identity) h) 1 0)) (isSet (h .reveal) && fromLower s h)
+    by-choice (λ v. Midway t (after t x v) (k + choose (marks (s .identity) h) 1 0)) (isSet (h .reveal) && fromLower s h)
     (λ f. midway-reveal t x k _ n)
     (λ f. midway-nothing t x k _ n))
 midway-as t s h k Prospect m =
-    chosen-event (λ v. Midway t (after t s v) (k + choose (marks (s .identity) h) 1 0)) (fromHigher s h)
+    by-choice (λ v. Midway t (after t s v) (k + choose (marks (s .identity) h) 1 0)) (fromHigher s h)
     (λ f. midway-backup t s k _ m)
     (λ f. midway-nothing t s k _ m)
 midway-as t s h k Primary m =
-    chosen-event (λ v. Midway t (after t s v) (k + choose (marks (s .identity) h) 1 0)) (fromHigher s h)
+    by-choice (λ v. Midway t (after t s v) (k + choose (marks (s .identity) h) 1 0)) (fromHigher s h)
     (λ f. midway-backup t s k _ m)
     (λ f.
-    chosen-event (λ v. Midway t (after t s v) (k + choose (marks (s .identity) h) 1 0)) (fromLower s h)
+    by-choice (λ v. Midway t (after t s v) (k + choose (marks (s .identity) h) 1 0)) (fromLower s h)
     (λ g. midway-lower t s k _ m)
     (λ g. midway-nothing t s k _ m))
 
@@ -149,20 +142,20 @@ hear-appends t s h k Sync e m v l = nothing-appends t s
 hear-appends t s h k Backup e m v l =
     let x = setSilence t s in
     let un = unrevealed s v (ap isBeating e) in
-    chosen-event (Appends t x) (marks (s .identity) h)
+    by-choice (Appends t x) (marks (s .identity) h)
     (λ f.
     let few = m .few in
     let one : _≡_ {A = ℕ} (choose (marks (s .identity) h) 1 0) 1 = chosen 0 f in
     beat-appends t x (m .unpassed) un (omega (arith, few, one, l)))
     (λ f.
-    chosen-event (Appends t x) (isSet (h .reveal) && fromLower s h)
+    by-choice (Appends t x) (isSet (h .reveal) && fromLower s h)
     (λ g. reveal-appends t x (m .unpassed) un)
     (λ g. nothing-appends t x))
-hear-appends t s h k Prospect e m v l = chosen-event (Appends t s) (fromHigher s h) (λ f. backup-appends t s) (λ f. nothing-appends t s)
+hear-appends t s h k Prospect e m v l = by-choice (Appends t s) (fromHigher s h) (λ f. backup-appends t s) (λ f. nothing-appends t s)
 hear-appends t s h k Primary e m v l =
-    chosen-event (Appends t s) (fromHigher s h)
+    by-choice (Appends t s) (fromHigher s h)
     (λ f. backup-appends t s)
-    (λ f. chosen-event (Appends t s) (fromLower s h) (λ g. lower-appends t s) (λ g. nothing-appends t s))
+    (λ f. by-choice (Appends t s) (fromLower s h) (λ g. lower-appends t s) (λ g. nothing-appends t s))
 
 -- ---- the timers
 
@@ -173,7 +166,7 @@ module _ (t : ℕ) (p : Period) (some : 1 ≤ p .frames) where
   silent-appends m Idle e z v = nothing-appends t m
   silent-appends m Sync e z v = nothing-appends t m
   silent-appends m Backup e z v =
-      chosen-event (Appends t m) (aged (m .silence) (silenceLimit p) t)
+      by-choice (Appends t m) (aged (m .silence) (silenceLimit p) t)
       (λ f. reveal-appends t m z (unrevealed m v (ap isBeating e)))
       (λ f. nothing-appends t m)
   silent-appends m Prospect e z v = nothing-appends t m
@@ -192,15 +185,15 @@ module _ (t : ℕ) (p : Period) (some : 1 ≤ p .frames) where
   beating-appends m k Idle w = nothing-appends t m
   beating-appends m k Sync w = nothing-appends t m
   beating-appends m k Backup w = nothing-appends t m
-  beating-appends m k Prospect w = chosen-event (Appends t m) (aged (m .beat) (beatLimit p) t) (due-appends m k w) (λ f. nothing-appends t m)
-  beating-appends m k Primary w = chosen-event (Appends t m) (aged (m .beat) (beatLimit p) t) (due-appends m k w) (λ f. nothing-appends t m)
+  beating-appends m k Prospect w = by-choice (Appends t m) (aged (m .beat) (beatLimit p) t) (due-appends m k w) (λ f. nothing-appends t m)
+  beating-appends m k Primary w = by-choice (Appends t m) (aged (m .beat) (beatLimit p) t) (due-appends m k w) (λ f. nothing-appends t m)
 
   rising-appends : (m : Server) (r : Role) → Appends t m (risingIn r (aged (m .prospect) (prospectLimit p) t))
   rising-appends m Down = nothing-appends t m
   rising-appends m Idle = nothing-appends t m
   rising-appends m Sync = nothing-appends t m
   rising-appends m Backup = nothing-appends t m
-  rising-appends m Prospect = chosen-event (Appends t m) (aged (m .prospect) (prospectLimit p) t) (λ f. primary-appends t m) (λ f. nothing-appends t m)
+  rising-appends m Prospect = by-choice (Appends t m) (aged (m .prospect) (prospectLimit p) t) (λ f. primary-appends t m) (λ f. nothing-appends t m)
   rising-appends m Primary = nothing-appends t m
 
   midway-silent : (m : Server) (k : ℕ) (r : Role) → Midway t m k → Midway t (after t m (silentIn r (aged (m .silence) (silenceLimit p) t))) (k + 0)
@@ -208,7 +201,7 @@ module _ (t : ℕ) (p : Period) (some : 1 ≤ p .frames) where
   midway-silent m k Idle w = midway-nothing t m k 0 w
   midway-silent m k Sync w = midway-nothing t m k 0 w
   midway-silent m k Backup w =
-      chosen-event (λ e. Midway t (after t m e) (k + 0)) (aged (m .silence) (silenceLimit p) t)
+      by-choice (λ e. Midway t (after t m e) (k + 0)) (aged (m .silence) (silenceLimit p) t)
       (λ f. midway-reveal t m k 0 w)
       (λ f. midway-nothing t m k 0 w)
   midway-silent m k Prospect w = midway-nothing t m k 0 w
@@ -220,10 +213,6 @@ rest-of : List Heartbeat → List Heartbeat
 rest-of [] = []
 rest-of (h ∷ l) = l
 
-all-left : (q : Heartbeat → Bool) (a b : List Heartbeat) → all q (a ++ b) ≡ true → all q a ≡ true
-all-left q [] b e = refl
-all-left q (x ∷ a) b e = and-true (fst-true (q x) (all q (a ++ b)) e) (all-left q a b (snd-true (q x) (all q (a ++ b)) e))
-
 prefix-parts :
     (s : Server) (a b u w : List Heartbeat) → a ++ b ≡ u ++ w → all (fromHigher s) u ≡ true → all (fromLower s) w ≡ true → Falls s a
 unfolding rest-of
@@ -234,7 +223,7 @@ prefix-parts s (x ∷ a) b [] w e f g =
       under = x ∷ a;
       parts = refl;
       highers = refl;
-      lowers = all-left (fromLower s) (x ∷ a) b (ap (all (fromLower s)) e ∙ g);
+      lowers = all-front (fromLower s) (x ∷ a) b (ap (all (fromLower s)) e ∙ g);
     }
 prefix-parts s (x ∷ a) b (y ∷ u) w e f g =
     let r = prefix-parts s a b u w (ap rest-of e) (snd-true (fromHigher s y) (all (fromHigher s) u) f) g in
@@ -263,25 +252,19 @@ passer Primary e = refl
 entering-appends : (t : ℕ) (s : Server) (k : ℕ) → Appends t s (entering k)
 unfolding entering
 entering-appends t s k =
-    chosen-event (Appends t s) (eqb k 0)
+    by-choice (Appends t s) (eqb k 0)
     (λ e. down-appends t s)
     (λ e.
-    chosen-event (Appends t s) (eqb k 1)
+    by-choice (Appends t s) (eqb k 1)
     (λ f. idle-appends t s)
-    (λ f. chosen-event (Appends t s) (eqb k 2) (λ g. sync-appends t s) (λ g. backup-appends t s)))
-
--- an answer that is a refusal, or else one that is none
-no-answer : (b : Bool) (x y : Answer) → (x .number ≡ 0 → ⊥) → choose b x y .number ≡ 0 → (b ≡ false) × (y .number ≡ 0)
-unfolding choose
-no-answer true x y h e = absurd (h e)
-no-answer false x y h e = (refl, e)
+    (λ f. by-choice (Appends t s) (eqb k 2) (λ g. sync-appends t s) (λ g. backup-appends t s)))
 
 -- a pass that is answered is that of a primary, to somebody
 pass-taken : (b : ℕ) (s : Server) → verbAnswer Pass b s .number ≡ 0 → (b ≡ 0 → ⊥) × (s .role ≡ Primary)
 unfolding verbAnswer
 pass-taken b s e =
-    let a = no-answer (eqb (s .identity) 0 || eqb b 0) (refused 2) _ (λ z. omega (arith, z)) e in
-    let d = no-answer (eqb b (s .identity)) (refused 8) _ (λ z. omega (arith, z)) (a .1) in
+    let a = not-first (λ (x : Answer). x .number ≡ 0) (eqb (s .identity) 0 || eqb b 0) e (λ z. omega (arith, z)) in
+    let d = not-first (λ (x : Answer). x .number ≡ 0) (eqb b (s .identity)) (a .1) (λ z. omega (arith, z)) in
     (eqb-false b 0 (or-false (eqb (s .identity) 0) (eqb b 0) (a .0) .1), passer (s .role) (d .1))
 
 event-appends :
@@ -299,7 +282,7 @@ verb-appends : (t : ℕ) (s : Server) (v : Verb) (b : ℕ) → (isBeating (s .ro
 unfolding verbHappens
 verb-appends t s v b u =
     let a = verbAnswer v b s in
-    chosen-event (Appends t s) (eqb (a .number) 0)
+    by-choice (Appends t s) (eqb (a .number) 0)
     (λ e. event-appends t s v b (getD (a .values) 0 0) u (eqb-true (a .number) 0 e))
     (λ e. nothing-appends t s)
 

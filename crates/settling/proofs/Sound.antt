@@ -7,7 +7,9 @@ use borrow.Author.Tests.{eqb-false, not-true}
 use lib.Dec.{eqb}
 use lib.ListN.{length}
 use Rattle.lists.specs.Choice.{choose}
-use Rattle.lists.proofs.Cases.{tested, fst-true, snd-true}
+use Rattle.lists.specs.Lists.{count}
+use Rattle.lists.proofs.Cases.{tested, fst-true, snd-true, on, clash}
+use Rattle.lists.proofs.Counting.{count-le}
 use Rattle.heartbeat.specs.declared.Rank.{Rank}
 use Rattle.server.specs.declared.Server.{Server}
 use Rattle.server.specs.Server.{rankOf, cleared, sentAny}
@@ -16,12 +18,9 @@ use Rattle.channel.specs.declared.Channel.{Channel}
 use Rattle.channel.specs.Hearing.{place, whole, hearsFrom, inbox}
 use Rattle.channel.specs.Frame.{heardAll, hearing, turned, advanced}
 use Rattle.traces.specs.Trace.{isActive, isBeating}
-use Rattle.traces.proofs.Laws.{on, clash}
-use Rattle.traces.specs.Facts.{count}
-use Rattle.traces.proofs.Order.{count-le}
-use Rattle.settling.proofs.Places.{place-advanced, long-advanced}
-use Rattle.settling.proofs.Next.{Apart}
-use Rattle.settling.proofs.Inbox.{Falls, inbox-falls}
+use Rattle.channel.proofs.Places.{place-advanced, long-advanced}
+use Rattle.channel.proofs.Next.{Apart}
+use Rattle.channel.proofs.Inbox.{Falls, inbox-falls}
 use Rattle.settling.proofs.Heard.{rest-all}
 use Rattle.settling.proofs.Young.{Young, due-next, due-heard}
 use Rattle.settling.proofs.Ticks.{ticks-rest}

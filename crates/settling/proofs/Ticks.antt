@@ -5,7 +5,7 @@ use Prim.Native.Nat.{ℕ, _+_, _≤_}
 use native.Mathlib.Omega.{arith}
 use borrow.Author.Tests.{eq-eqb, ne-eqb}
 use Rattle.lists.specs.Choice.{choose}
-use Rattle.lists.proofs.Cases.{tested, chosen, other}
+use Rattle.lists.proofs.Cases.{tested, chosen, other, on, clash}
 use Rattle.server.specs.declared.Role.{Role}
 use Rattle.server.specs.declared.Role.the-variants.{Down, Idle, Sync, Backup, Prospect, Primary}
 use Rattle.server.specs.declared.Event.{Event}
@@ -16,7 +16,6 @@ use Rattle.server.specs.Period.{silenceLimit, prospectLimit, beatLimit}
 use Rattle.server.specs.Server.{inRole, setBeat, toProspect, sendBeat, sendReveal, after}
 use Rattle.server.specs.Timers.{aged, silentIn, beatingIn, risingIn, afterSilent, afterBeating, afterRising, timed}
 use Rattle.traces.specs.Trace.{isActive}
-use Rattle.traces.proofs.Laws.{on, clash}
 
 module _ (p : Period) (t : ℕ) where
   -- each timer, by the role

@@ -1,10 +1,10 @@
 -- Timers are younger than their limits: in every frame, whatever is heard and entered. Assumes nothing.
-use mathlib.Core.Bool.{Bool, true, false, _&&_}
+use mathlib.Core.Bool.{true, false, _&&_}
 use mathlib.Core.Path.{_≡_, refl, sym, ap}
 use mathlib.Core.List.{List, [], _∷_}
 use Prim.Native.Nat.{ℕ, _+_, _<_, _≤_}
 use native.Mathlib.Omega.{arith}
-use Rattle.lists.specs.Choice.{choose}
+use Rattle.lists.proofs.Cases.{clash, by-choice}
 use Rattle.heartbeat.specs.declared.Heartbeat.{Heartbeat}
 use Rattle.heartbeat.specs.Heartbeat.{isSet}
 use Rattle.server.specs.declared.Role.{Role}
@@ -18,7 +18,6 @@ use Rattle.server.specs.Server.{after}
 use Rattle.server.specs.Hearing.{fromHigher, fromLower, forThis, backupHears, prospectHears, primaryHears, hearsIn, attending, heard}
 use Rattle.channel.specs.Frame.{heardAll}
 use Rattle.traces.specs.Trace.{isActive, isBeating}
-use Rattle.traces.proofs.Laws.{clash}
 use Rattle.traces.proofs.Ways as ways
 
 -- the timers of a server in the role r in frame t are not set later, and have not passed their limits
@@ -124,19 +123,14 @@ module _ (p : Period) (t : ℕ) where
   due-hearing s notes y = y
 
 -- hearing has no other events
-choice-hearing : (b : Bool) {x y : Event} → IsHearing x → IsHearing y → IsHearing (choose b x y)
-unfolding choose
-choice-hearing true h k = h
-choice-hearing false h k = k
-
 pub hears-only : (r : Role) (s : Server) (h : Heartbeat) → IsHearing (hearsIn r s h)
 unfolding backupHears prospectHears primaryHears
 hears-only Down s h = nothing
 hears-only Idle s h = nothing
 hears-only Sync s h = nothing
-hears-only Backup s h = choice-hearing (forThis s h) beats (choice-hearing (isSet (h .reveal) && fromLower s h) reveals nothing)
-hears-only Prospect s h = choice-hearing (fromHigher s h) backs nothing
-hears-only Primary s h = choice-hearing (fromHigher s h) backs (choice-hearing (fromLower s h) notes nothing)
+hears-only Backup s h = by-choice IsHearing (forThis s h) (λ _. beats) (λ _. by-choice IsHearing (isSet (h .reveal) && fromLower s h) (λ _. reveals) (λ _. nothing))
+hears-only Prospect s h = by-choice IsHearing (fromHigher s h) (λ _. backs) (λ _. nothing)
+hears-only Primary s h = by-choice IsHearing (fromHigher s h) (λ _. backs) (λ _. by-choice IsHearing (fromLower s h) (λ _. notes) (λ _. nothing))
 
 pub due-heard : (p : Period) (t : ℕ) (s : Server) (hs : List Heartbeat) → Due p t s → Due p t (heardAll t s hs)
 unfolding heardAll

@@ -32,10 +32,14 @@ isVerb (verb v a b d) = true
 isVerb (advance d) = false
 isVerb (advanceTo t d) = false
 
--- "In the calls that follow it, made in the same way, each verb is refused, and an advance may be."
+-- "each verb is refused, and an advance may be"
+abbrev pub refusedIfVerb : Channel → Call → Bool
+refusedIfVerb c k = choose (isVerb k) (not (eqb (callNumber c k) 0)) true
+
+-- "In the calls that follow it, made in the same way, .."
 unfoldable pub verbsRefused : Channel → List Call → Bool
 verbsRefused c [] = true
-verbsRefused c (k ∷ ks) = choose (isVerb k) (not (eqb (callNumber c k) 0)) true && verbsRefused (callChannel c k) ks
+verbsRefused c (k ∷ ks) = refusedIfVerb c k && verbsRefused (callChannel c k) ks
 
 -- "in backup, prospect or primary": the server of place i
 abbrev pub InThoseRoles : Channel → ℕ → Type 0

@@ -14,13 +14,21 @@ use Rattle.channel.specs.Calls.{Call, verb, advanceTo, channelAfter}
 use Rattle.settling.specs.Links.{NoLinkCut}
 use Rattle.settling.specs.Demand.{tableOf}
 
--- the servers of the examples: 1, 2 and 3, of rising priority, in the places 0, 1 and 2
-abbrev pub three : List Rank
-three =
-    record { priority = 10; identity = 1 }
-    ∷ record { priority = 20; identity = 2 }
-    ∷ record { priority = 30; identity = 3 }
+-- the servers of the examples: 1, 2 and 3, in the places 0, 1 and 2, of these priorities
+abbrev pub ranked : ℕ → ℕ → ℕ → List Rank
+ranked a b d =
+    record { priority = a; identity = 1 }
+    ∷ record { priority = b; identity = 2 }
+    ∷ record { priority = d; identity = 3 }
     ∷ []
+
+-- 3 is the highest and 1 the lowest
+abbrev pub rising : List Rank
+rising = ranked 10 20 30
+
+-- 2 is the highest and 1 the lowest
+abbrev pub mixed : List Rank
+mixed = ranked 10 30 20
 
 -- their roles by number: 3 is backup, 4 prospect, 5 primary
 abbrev pub rolesOf : Channel → List ℕ
@@ -30,7 +38,7 @@ rolesOf c = roleNumber (place c 0 .role) ∷ roleNumber (place c 1 .role) ∷ ro
 abbrev pub lent : List ℕ
 lent = replicate 2000 0
 
--- all three are backup in frame 0; if only advances follow, 3 is primary from frame 12 on
+-- all three get ready at once; if that is in frame 0 and only advances follow, the highest is primary from frame 12 on
 abbrev pub allReady : List Call → List Call
 allReady ks =
     verb Start 1 0 lent
@@ -40,6 +48,10 @@ allReady ks =
     ∷ verb Start 3 0 lent
     ∷ verb Ready 3 0 lent
     ∷ ks
+
+-- nobody is ready before frame 12
+abbrev pub lateReady : List Call
+lateReady = advanceTo 12 lent ∷ allReady []
 
 -- a lower server is primary when the higher ones get ready
 abbrev pub lowerBeats : List Call
@@ -66,27 +78,29 @@ passing = allReady (advanceTo 12 lent ∷ verb Pass 3 1 lent ∷ [])
 abbrev pub twoPrimaries : List Call
 twoPrimaries = allReady (advanceTo 6 lent ∷ verb Cut 3 2 lent ∷ advanceTo 12 lent ∷ verb Mend 3 2 lent ∷ [])
 
-abbrev pub start : Channel
-start = fresh (tableOf three) 3
+abbrev pub start : List Rank → Channel
+start rs = fresh (tableOf rs) 3
 
--- what holds of the list ks, which ends in frame 12: no link is cut, and the roles when it ends, in frame t + 1, and in frame
--- t + 4 × P + 2 = 26
-pub record Example (ks : List Call) (ended next settled : List ℕ) : Type 0 where
-  pub uncut : NoLinkCut start ks
-  pub ends : channelAfter start ks .frame ≡ 12
-  pub roles : rolesOf (channelAfter start ks) ≡ ended
-  pub after : rolesOf (advanced (channelAfter start ks)) ≡ next
-  pub later : rolesOf (channelAfter (channelAfter start ks) (advanceTo 26 lent ∷ [])) ≡ settled
+-- what holds of the servers rs and the list ks, which ends in frame 12: the table is taken, no link is cut, and the roles when the list
+-- ends, in frame t + 1, and in frame t + 4 × P + 2 = 26
+pub record Example (rs : List Rank) (ks : List Call) (ended next settled : List ℕ) : Type 0 where
+  pub table : freshRefusal (tableOf rs) 3 ≡ 0
+  pub uncut : NoLinkCut (start rs) ks
+  pub ends : channelAfter (start rs) ks .frame ≡ 12
+  pub roles : rolesOf (channelAfter (start rs) ks) ≡ ended
+  pub after : rolesOf (advanced (channelAfter (start rs) ks)) ≡ next
+  pub later : rolesOf (channelAfter (channelAfter (start rs) ks) (advanceTo 26 lent ∷ [])) ≡ settled
 
 pub record Examples : Type 0 where
-  pub table : freshRefusal (tableOf three) 3 ≡ 0
   -- 1 is the one, and not the highest
-  pub lower-beats : Example lowerBeats (5 ∷ 3 ∷ 3 ∷ []) (5 ∷ 3 ∷ 3 ∷ []) (5 ∷ 3 ∷ 3 ∷ [])
+  pub lower-beats : Example rising lowerBeats (5 ∷ 3 ∷ 3 ∷ []) (5 ∷ 3 ∷ 3 ∷ []) (5 ∷ 3 ∷ 3 ∷ [])
   -- nobody is prospect or primary at the end of frame t + 1, and the highest is the one
-  pub takes-all : Example slowest (3 ∷ 5 ∷ 3 ∷ []) (3 ∷ 3 ∷ 3 ∷ []) (3 ∷ 3 ∷ 5 ∷ [])
+  pub takes-all : Example rising slowest (3 ∷ 5 ∷ 3 ∷ []) (3 ∷ 3 ∷ 3 ∷ []) (3 ∷ 3 ∷ 5 ∷ [])
+  -- so too where the highest has neither the greatest identity nor the least
+  pub by-priority : Example mixed lateReady (3 ∷ 3 ∷ 3 ∷ []) (3 ∷ 3 ∷ 3 ∷ []) (3 ∷ 5 ∷ 3 ∷ [])
   -- the pass is heard in frame t + 1
-  pub passes : Example passing (3 ∷ 3 ∷ 3 ∷ []) (4 ∷ 3 ∷ 3 ∷ []) (5 ∷ 3 ∷ 3 ∷ [])
+  pub passes : Example rising passing (3 ∷ 3 ∷ 3 ∷ []) (4 ∷ 3 ∷ 3 ∷ []) (5 ∷ 3 ∷ 3 ∷ [])
   -- two primaries, of which the higher is the one
-  pub two-beat : Example twoPrimaries (3 ∷ 5 ∷ 5 ∷ []) (3 ∷ 3 ∷ 5 ∷ []) (3 ∷ 3 ∷ 5 ∷ [])
+  pub two-beat : Example rising twoPrimaries (3 ∷ 5 ∷ 5 ∷ []) (3 ∷ 3 ∷ 5 ∷ []) (3 ∷ 3 ∷ 5 ∷ [])
   -- not a frame sooner: 3 is prospect in frame t + 4 × P + 1
-  pub needs-all : rolesOf (channelAfter (channelAfter start slowest) (advanceTo 25 lent ∷ [])) ≡ 3 ∷ 3 ∷ 4 ∷ []
+  pub needs-all : rolesOf (channelAfter (channelAfter (start rising) slowest) (advanceTo 25 lent ∷ [])) ≡ 3 ∷ 3 ∷ 4 ∷ []

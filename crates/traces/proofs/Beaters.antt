@@ -4,10 +4,11 @@ use mathlib.Core.Logic.{_⊎_, inl, inr}
 use mathlib.Core.Bool.{true}
 use Prim.Native.Nat.{ℕ, zero, suc, _+_, _<_, _≤_}
 use native.Mathlib.Omega.{arith}
+use Rattle.lists.proofs.Cases.{on, clash}
 use Rattle.server.specs.declared.Role.the-variants.{Prospect, Primary}
 use Rattle.traces.specs.Trace.{Trace, Beats, HearsHigher}
 use Rattle.traces.specs.Facts.{Facts}
-use Rattle.traces.proofs.Laws.{on, clash, upto, onward}
+use Rattle.traces.proofs.Laws.{upto, onward}
 use Rattle.traces.proofs.Order.{no-both}
 use Rattle.traces.proofs.Ways.{beating, prospect-on}
 use Rattle.traces.proofs.Senders.{sender-beats, older}

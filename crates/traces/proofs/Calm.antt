@@ -4,10 +4,10 @@ use mathlib.Core.Logic.{_⊎_, inl, inr}
 use mathlib.Core.Bool.{true}
 use Prim.Native.Nat.{ℕ, suc, _<_, _≤_}
 use native.Mathlib.Omega.{arith}
+use Rattle.lists.proofs.Cases.{on, clash}
 use Rattle.server.specs.declared.Role.the-variants.{Backup}
 use Rattle.traces.specs.Trace.{Trace, Beats, HearsAny}
 use Rattle.traces.specs.Facts.{Facts, Hushed}
-use Rattle.traces.proofs.Laws.{on, clash}
 use Rattle.traces.proofs.Ways.{prospect-beats, backup-active, backup-still}
 use Rattle.traces.proofs.Ways.{Went, went, rested, kept, yielded, raised, woke, heeded, waited}
 use Rattle.traces.proofs.Senders.{Wakes}

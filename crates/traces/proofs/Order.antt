@@ -4,44 +4,16 @@ use mathlib.Core.Logic.{_⊎_, inl, inr}
 use mathlib.Core.Bool.{Bool, true, false, _&&_}
 use Prim.Native.Nat.{ℕ, zero, suc, _<_, _≤_}
 use native.Mathlib.Omega.{arith}
-use Rattle.traces.specs.Facts.{Order, count}
-use Rattle.traces.proofs.Laws.{and-both, both-and, and-no, tested, on, less, same, clash}
+use Rattle.lists.specs.Lists.{count}
+use Rattle.lists.proofs.Cases.{fst-true, snd-true, and-true, and-right, tested, on, less, equal, clash}
+use Rattle.lists.proofs.Counting.{count-lt}
+use Rattle.traces.specs.Facts.{Order}
 
 -- h passes the test p, and is higher than all others below m that do
 pub record Highest (n : ℕ) (higher : ℕ → ℕ → Bool) (p : ℕ → Bool) (m h : ℕ) : Type 0 where
   pub known : h < n
   pub has : p h ≡ true
   pub over : (i : ℕ) → i < m → p i ≡ true → (i ≡ h) ⊎ (higher h i ≡ true)
-
--- who passes p passes q: p is passed by no more
-pub count-le : (p q : ℕ → Bool) (m : ℕ) → ((i : ℕ) → i < m → p i ≡ true → q i ≡ true) → count p m ≤ count q m
-unfolding count
-count-le p q zero h = omega arith
-count-le p q (suc m) h =
-    let below = count-le p q m (λ i l. h i (omega arith)) in
-    on (tested (p m)) (λ e. rw (e, h m (omega arith) e) (omega arith)) λ e.
-    on (tested (q m)) (λ g. rw (e, g) (omega arith)) (λ g. rw (e, g) (omega arith))
-
--- and one passes q alone: p is passed by fewer
-pub count-lt : (p q : ℕ → Bool) (m : ℕ) → ((i : ℕ) → i < m → p i ≡ true → q i ≡ true)
-    → (x : ℕ) → x < m → p x ≡ false → q x ≡ true → count p m < count q m
-unfolding count
-count-lt p q zero h x l a b = absurd (omega arith)
-count-lt p q (suc m) h x l a b =
-    let below = count-lt p q m (λ i l. h i (omega arith)) x in
-    let most = count-le p q m (λ i l. h i (omega arith)) in
-    on (less x m)
-    (λ g. let s = below g a b in
-    on (tested (p m)) (λ e. rw (e, h m (omega arith) e) (omega arith)) λ e.
-    on (tested (q m)) (λ f. rw (e, f) (omega arith)) (λ f. rw (e, f) (omega arith)))
-    (λ g. let e : x ≡ m = omega arith in rw (rw e at a, rw e at b) (omega arith))
-
--- no more pass than there are
-pub count-size : (p : ℕ → Bool) (m : ℕ) → count p m ≤ m
-unfolding count
-count-size p zero = omega arith
-count-size p (suc m) = let below = count-size p m in
-    on (tested (p m)) (λ e. rw e (omega arith)) (λ e. rw e (omega arith))
 
 module _ {n : ℕ} {seated : ℕ → Bool} {higher : ℕ → ℕ → Bool} (o : Order n seated higher) where
   pub no-both : (i j : ℕ) → i < n → j < n → higher i j ≡ true → higher j i ≡ true → ⊥
@@ -92,7 +64,7 @@ module _ {n : ℕ} {seated : ℕ → Bool} {higher : ℕ → ℕ → Bool} (o : 
       }
 
       against : p m ≡ true → (h : ℕ) → Highest n higher p m h → (h : ℕ) × Highest n higher p (suc m) h
-      against e h r = on (same h m) (λ s. (h, grow r (λ _. inl (sym s)))) λ s.
+      against e h r = on (equal h m) (λ s. (h, grow r (λ _. inl (sym s)))) λ s.
           on (o .total h m (r .known) l (sits h (r .known) (r .has)) (sits m l e) s)
           (λ u. (h, grow r (λ _. inr u))) (λ u. (m, beaten e h r u))
 
@@ -106,12 +78,12 @@ module _ {n : ℕ} {seated : ℕ → Bool} {higher : ℕ → ℕ → Bool} (o : 
       → rank n seated higher j < rank n seated higher i
   unfolding rank
   rank-lt i j a b s e = count-lt (λ x. seated x && higher j x) (λ x. seated x && higher i x) n
-      (λ x l q. let r = and-both (seated x) (higher j x) q in
-      both-and (r .0) (o .transitive i j x a b l e (r .1))) j b
-      (and-no (seated j) (o .irreflexive j b)) (both-and s e)
+      (λ x l q.
+      and-true (fst-true (seated x) (higher j x) q) (o .transitive i j x a b l e (snd-true (seated x) (higher j x) q))) j b
+      (and-right (seated j) (o .irreflexive j b)) (and-true s e)
 
   -- and the rank of a seated one is below the number of the seated
   pub rank-small : (i : ℕ) → i < n → seated i ≡ true → rank n seated higher i < count seated n
   unfolding rank
   rank-small i a s = count-lt (λ x. seated x && higher i x) seated n
-      (λ x l q. and-both (seated x) (higher i x) q .0) i a (and-no (seated i) (o .irreflexive i a)) s
+      (λ x l q. fst-true (seated x) (higher i x) q) i a (and-right (seated i) (o .irreflexive i a)) s

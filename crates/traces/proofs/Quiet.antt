@@ -4,10 +4,11 @@ use mathlib.Core.Path.{_∙_}
 use mathlib.Core.Logic.{_⊎_, inl, inr}
 use Prim.Native.Nat.{ℕ, suc, _+_, _<_, _≤_}
 use native.Mathlib.Omega.{arith}
+use Rattle.lists.proofs.Cases.{on, less, clash, refuted}
 use Rattle.traces.specs.Trace.{Trace, isBeating, Active, Beats, HearsAny}
 use Rattle.traces.specs.Facts.{Facts, Raised, Waited}
 use Rattle.traces.specs.Settling.{NoneBeats}
-use Rattle.traces.proofs.Laws.{on, less, clash, refuted, upto}
+use Rattle.traces.proofs.Laws.{upto}
 use Rattle.traces.proofs.Order.{Highest}
 use Rattle.traces.proofs.Ways.{beats-still}
 use Rattle.traces.proofs.Ways.{Went, went, rested, kept, yielded, raised, woke, heeded, waited}

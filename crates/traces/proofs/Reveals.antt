@@ -4,10 +4,11 @@ use mathlib.Core.Path.{_≡_, sym, _∙_}
 use Prim.Native.Nat.{ℕ, suc, _+_, _*_, _<_, _≤_}
 use mathlib.Core.Bool.{true}
 use native.Mathlib.Omega.{arith}
+use Rattle.lists.proofs.Cases.{on, less, clash, refuted}
 use Rattle.server.specs.declared.Role.the-variants.{Backup}
 use Rattle.traces.specs.Trace.{Trace, activeAt0, Beats, HearsHigher, HearsLowReveal, HearsAny}
 use Rattle.traces.specs.Facts.{Facts}
-use Rattle.traces.proofs.Laws.{on, less, clash, refuted, onward}
+use Rattle.traces.proofs.Laws.{onward}
 use Rattle.traces.proofs.Order.{Highest, not-over, rank, rank-lt, rank-small}
 use Rattle.traces.proofs.Ways.{prospect-beats, backup-active, backup-still, backs-or-beats, beats-still}
 use Rattle.traces.proofs.Ways.{Went, went, rested, kept, yielded, raised, woke, heeded, waited}

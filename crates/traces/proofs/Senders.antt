@@ -4,11 +4,11 @@ use mathlib.Core.Logic.{_⊎_, inl, inr}
 use mathlib.Core.Bool.{true, false}
 use Prim.Native.Nat.{ℕ, zero, suc, _+_, _<_, _≤_}
 use native.Mathlib.Omega.{arith}
+use Rattle.lists.proofs.Cases.{on, clash}
 use Rattle.server.specs.declared.Role.the-variants.{Backup}
 use Rattle.traces.specs.Trace.{Trace, isActive, isBeating, Active, Beats}
 use Rattle.traces.specs.Trace.{HearsLowReveal, HearsAny}
 use Rattle.traces.specs.Facts.{Facts, BeatsOn}
-use Rattle.traces.proofs.Laws.{on, clash}
 use Rattle.traces.proofs.Ways.{beating-active, prospect-beats, backup-active, backup-still, Went, went}
 use Rattle.traces.proofs.Ways.{rested, kept, yielded, raised, woke, heeded, waited}
 

@@ -5,10 +5,11 @@ use mathlib.Core.Logic.{_⊎_, inl, inr}
 use mathlib.Core.Bool.{true}
 use Prim.Native.Nat.{ℕ, zero, suc, _+_, _<_, _≤_}
 use native.Mathlib.Omega.{arith}
+use Rattle.lists.proofs.Cases.{on, equal, clash, refuted}
 use Rattle.traces.specs.Trace.{Trace, activeAt0, isBeating, Active, Beats}
 use Rattle.traces.specs.Facts.{Facts}
 use Rattle.traces.specs.Settling.{TopIfStill, Settled, Settling}
-use Rattle.traces.proofs.Laws.{on, same, clash, refuted, holds?, found}
+use Rattle.traces.proofs.Laws.{holds?, found}
 use Rattle.traces.proofs.Order.{highest}
 use Rattle.traces.proofs.Ways.{prospect-beats, primary-beats, backup-still}
 use Rattle.traces.proofs.Senders.{beater-active, no-new}
@@ -55,7 +56,7 @@ module _ {P S Q : ℕ} {t : Trace} (f : Facts P S Q t) where
     led = λ k g. let s = sole k (omega arith) in record {
       leads = ripens f h l (suc (suc S)) (omega arith) on-top k (omega arith);
       follow = s .backs;
-      alone = λ i m e. on (same i h) (λ q. q) (λ d. absurd (backup-still
+      alone = λ i m e. on (equal i h) (λ q. q) (λ d. absurd (backup-still
           (s .backs i m d (beater-active f k i m (primary-beats e))) (primary-beats e)));
     };
   }

@@ -4,10 +4,11 @@ use mathlib.Core.Logic.{inl, _≢_}
 use mathlib.Core.Bool.{true, false}
 use Prim.Native.Nat.{ℕ, suc, _<_, _≤_}
 use native.Mathlib.Omega.{arith}
+use Rattle.lists.proofs.Cases.{on, equal, clash, refuted}
 use Rattle.server.specs.declared.Role.the-variants.{Backup}
 use Rattle.traces.specs.Trace.{Trace, Active, Beats, HearsHigher, HearsAny}
 use Rattle.traces.specs.Facts.{Facts, Hushed}
-use Rattle.traces.proofs.Laws.{on, same, clash, refuted, onward}
+use Rattle.traces.proofs.Laws.{onward}
 use Rattle.traces.proofs.Ways.{backup-still, beats-still}
 use Rattle.traces.proofs.Ways.{Went, went, rested, kept, yielded, raised, woke, heeded, waited}
 use Rattle.traces.proofs.Senders.{NoReveal, active-at, beater-active, backup-was, reveal-from}
@@ -38,7 +39,7 @@ module _ {P S Q : ℕ} {t : Trace} (f : Facts P S Q t) (h : ℕ) (known : h < t 
   sole-unrivalled k p s = record { beats = s .beats; unheard = tops-unheard f h known k p tops }
     where
       tops : Tops t h k
-      tops i l b = on (same i h) inl (λ d. absurd (backup-still (s .backs i l d (beater-active f k i l b)) b))
+      tops i l b = on (equal i h) inl (λ d. absurd (backup-still (s .backs i l d (beater-active f k i l b)) b))
 
   -- nobody reveals in the next frame
   sole-hidden : (k : ℕ) → 2 ≤ k → Sole P t h k → NoReveal t (suc k)

@@ -4,12 +4,13 @@ use mathlib.Core.Logic.{_⊎_, inl, inr, _≢_}
 use mathlib.Core.Bool.{true, false}
 use Prim.Native.Nat.{ℕ, suc, _+_, _<_, _≤_}
 use native.Mathlib.Omega.{arith}
+use Rattle.lists.proofs.Cases.{tested, on, less, equal, clash}
 use Rattle.server.specs.declared.Role.{Role}
 use Rattle.server.specs.declared.Role.the-variants.{Down, Idle, Sync, Backup, Prospect, Primary}
 use Rattle.traces.specs.Trace.{isActive, isBeating, Trace}
 use Rattle.traces.specs.Trace.{Active, Beats, HearsHigher, HearsLowReveal, HearsAny}
 use Rattle.traces.specs.Facts.{Facts, Hushed, Raised, Waited, BeatsOn}
-use Rattle.traces.proofs.Laws.{tested, on, less, same, clash, holds?, both?, found}
+use Rattle.traces.proofs.Laws.{holds?, both?, found}
 
 -- roles
 pub beating : (r : Role) → isBeating r ≡ true → (r ≡ Prospect) ⊎ (r ≡ Primary)
@@ -68,7 +69,7 @@ any? t k i = on (found _ (λ j. both? (other? j) (holds? (t .sends k j))) (t .si
     (λ h. inr (λ r. h (r .who) (r .known) (r .other, r .sent)))
   where
     other? : (j : ℕ) → (j ≢ i) ⊎ (¬ (j ≢ i))
-    other? j = on (same j i) (λ e. inr (λ d. d e)) inl
+    other? j = on (equal j i) (λ e. inr (λ d. d e)) inl
 
 -- the ways of one server's quiet step
 pub data Went (S : ℕ) (t : Trace) (k i : ℕ) : Type 0 where

@@ -1,8 +1,9 @@
 -- What is asked of a trace: the order, the limits, the ages, the first step, and every later step of one server.
 use mathlib.Core.Path.{_≡_}
 use mathlib.Core.Logic.{_⊎_, _≢_}
-use mathlib.Core.Bool.{Bool, true, false, cond}
-use Prim.Native.Nat.{ℕ, zero, suc, _+_, _*_, _<_, _≤_}
+use mathlib.Core.Bool.{Bool, true, false}
+use Prim.Native.Nat.{ℕ, suc, _+_, _*_, _<_, _≤_}
+use Rattle.lists.specs.Lists.{count}
 use Rattle.server.specs.declared.Role.the-variants.{Backup, Prospect, Primary}
 use Rattle.traces.specs.Trace.{Trace, isActive, activeAt0, Active, Beats}
 use Rattle.traces.specs.Trace.{HearsHigher, HearsLowReveal, HearsAny}
@@ -14,11 +15,6 @@ pub record Order (n : ℕ) (seated : ℕ → Bool) (higher : ℕ → ℕ → Boo
       → higher i j ≡ true → higher j k ≡ true → higher i k ≡ true
   pub total : (i j : ℕ) → i < n → j < n → seated i ≡ true → seated j ≡ true → i ≢ j
       → (higher i j ≡ true) ⊎ (higher j i ≡ true)
-
--- how many below n pass the test p
-unfoldable pub count : (ℕ → Bool) → ℕ → ℕ
-count p zero = 0
-count p (suc n) = cond (p n) (suc (count p n)) (count p n)
 
 -- the period P, the silence limit S and the prospect limit Q, where n servers are active
 pub record Limits (n P S Q : ℕ) : Type 0 where

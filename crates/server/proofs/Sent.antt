@@ -2,20 +2,19 @@
 use mathlib.Core.Bool.{Bool, true, false, not, _&&_}
 use mathlib.Core.Path.{_≡_, refl, sym, ap, ap₂, _∙_}
 use mathlib.Core.Logic.{_⊎_, inl, inr}
-use mathlib.Core.List.{List, [], _∷_, List·Memᴰ, List·Memᴰ·head, List·Memᴰ·not-nil, List·Memᴰ·cases-cons, Memᴰ·append-left, Memᴰ·append-right}
+use mathlib.Core.List.{List, [], _∷_, List·Memᴰ, List·Memᴰ·head, Memᴰ·append-left, Memᴰ·append-right}
 use Prim.Native.Nat.{ℕ, zero, suc}
 use borrow.Author.Tests.{eq-eqb, ne-eqb, eqb-true, not-true}
 use lib.Dec.{eqb}
 use lib.ListN.{replicate}
 use Rattle.lists.specs.Choice.{choose}
 use Rattle.lists.specs.Lists.{all}
-use Rattle.lists.proofs.Cases.{tested, equal, chosen, other, and-true, fst-true, snd-true}
-use Rattle.lists.proofs.Clear.{all-append}
+use Rattle.lists.proofs.Cases.{tested, equal, chosen, other, and-true, fst-true, snd-true, on, clash}
+use Rattle.lists.proofs.Clear.{all-append, all-mem}
 use Rattle.heartbeat.specs.declared.Heartbeat.{Heartbeat}
 use Rattle.heartbeat.specs.Heartbeat.{sender, isSet}
 use Rattle.server.specs.declared.Server.{Server}
 use Rattle.server.specs.Server.{rankOf, plainOf, revealOf, passOf, sentBy, sentAny}
-use Rattle.traces.proofs.Laws.{on, clash}
 
 all-replicate : (p : Heartbeat → Bool) (n : ℕ) (h : Heartbeat) → p h ≡ true → all p (replicate n h) ≡ true
 all-replicate p zero h e = refl
@@ -80,11 +79,6 @@ reveal-any s e =
     on (equal (s .beats) 0)
     (λ z. chosen _ (eq-eqb (s .beats) 0 z) ∙ chosen _ e)
     (λ z. other _ (ne-eqb (s .beats) 0 z))
-
--- what every element passes, each does
-pub all-mem : {A : Type 0} (p : A → Bool) (l : List A) {x : A} → all p l ≡ true → List·Memᴰ x l → p x ≡ true
-all-mem p [] e m = absurd (List·Memᴰ·not-nil m)
-all-mem p (y ∷ l) e m = on (List·Memᴰ·cases-cons m) (λ q. rw q (fst-true (p y) (all p l) e)) (λ q. all-mem p l (snd-true (p y) (all p l) e) q)
 
 -- the sender of what a server sent is that server
 pub sent-rank : (s : Server) (h : Heartbeat) → List·Memᴰ h (sentBy s) → sender h ≡ rankOf s

@@ -17,9 +17,10 @@ map-at f k (x ∷ l) zero d h = ap (λ (n : ℕ). f n x) (let e : k ≡ k + 0 = 
 map-at f k (x ∷ l) (suc i) d h =
     map-at f (suc k) l i d (omega arith) ∙ ap (λ (n : ℕ). f n (getD l i d)) (let e : suc k + i ≡ k + suc i = omega arith in e)
 
-pub length-mapped : {A : Type 0} (f : ℕ → A → A) (k : ℕ) (l : List A) → length (mapFrom k f l) ≡ length l
-length-mapped f k [] = refl
-length-mapped f k (x ∷ l) = ap suc (length-mapped f (suc k) l)
+-- and its length
+length-from : {A : Type 0} (f : ℕ → A → A) (k : ℕ) (l : List A) → length (mapFrom k f l) ≡ length l
+length-from f k [] = refl
+length-from f k (x ∷ l) = ap suc (length-from f (suc k) l)
 
 -- a place after a frame
 pub place-advanced : (c : Channel) (i : ℕ) → i < length (c .servers) → place (advanced c) i ≡ turned c (c .frame + 1) i (place c i)
@@ -30,4 +31,4 @@ place-advanced c i h =
 
 pub long-advanced : (c : Channel) → length (advanced c .servers) ≡ length (c .servers)
 unfolding advanced
-long-advanced c = length-mapped (turned c (c .frame + 1)) 0 (c .servers)
+long-advanced c = length-from (turned c (c .frame + 1)) 0 (c .servers)

@@ -6,19 +6,18 @@ use mathlib.Core.List.{List, [], _∷_, _++_, append-assoc, List·Memᴰ, List·
 use Prim.Native.Nat.{ℕ, zero, suc, _<_}
 use borrow.Author.Tests.{lt-ltb}
 use Rattle.lists.specs.Lists.{all}
-use Rattle.lists.proofs.Cases.{less, chosen, fst-true, snd-true}
+use Rattle.lists.proofs.Cases.{less, chosen, fst-true, snd-true, on}
 use Rattle.lists.proofs.Clear.{all-append}
 use Rattle.heartbeat.specs.declared.Heartbeat.{Heartbeat}
 use Rattle.heartbeat.proofs.Order.{transitive, total}
 use Rattle.server.specs.declared.Server.{Server}
 use Rattle.server.specs.Server.{rankOf, plainOf, sentBy}
 use Rattle.server.specs.Hearing.{fromHigher, fromLower}
+use Rattle.server.proofs.Sent.{all-sent}
 use Rattle.channel.specs.declared.Channel.{Channel}
 use Rattle.channel.specs.Hearing.{place, hearsFrom, over, noPlace, nextSender, sendersAfter, sentByAll, senders, inbox}
-use Rattle.traces.proofs.Laws.{on}
-use Rattle.settling.proofs.Next.{Apart}
-use Rattle.settling.proofs.Senders.{some-next, none-next, each, all-heard}
-use Rattle.settling.proofs.Sent.{all-sent}
+use Rattle.channel.proofs.Next.{Apart}
+use Rattle.channel.proofs.Senders.{some-next, none-next, each, all-heard}
 
 -- what is heard falls into heartbeats of higher senders and then heartbeats of lower ones
 pub record Falls (s : Server) (hs : List Heartbeat) : Type 0 where

@@ -6,12 +6,11 @@ use Prim.Native.Nat.{ℕ, zero, suc, _<_, _≤_}
 use native.Mathlib.Omega.{arith}
 use borrow.Author.Tests.{lt-ltb, le-ltb}
 use Rattle.lists.specs.Choice.{choose}
-use Rattle.lists.proofs.Cases.{tested, less, chosen, other, and-true, fst-true, snd-true}
+use Rattle.lists.proofs.Cases.{less, chosen, other, by-choice, and-true, fst-true, snd-true, on, clash}
 use Rattle.heartbeat.proofs.Order.{transitive, total}
 use Rattle.server.specs.Server.{rankOf}
 use Rattle.channel.specs.declared.Channel.{Channel}
 use Rattle.channel.specs.Hearing.{place, hearsFrom, over, isPlace, comes, nextAmong, nextSender}
-use Rattle.traces.proofs.Laws.{on, clash}
 
 -- the identities of the places that place j hears are different
 pub record Apart (c : Channel) (j : ℕ) : Type 0 where
@@ -32,21 +31,39 @@ pub record First (c : Channel) (j last n best : ℕ) : Type 0 where
   pub none : 16 ≤ best → best ≡ 16
   pub first : (i : ℕ) → i < n → waits c j last i ≡ true → (best < 16) × ((i ≡ best) ⊎ (over c best i ≡ true))
 
+-- ---- which place comes before the best
+
+module _ (c : Channel) (j last best n : ℕ) where
+  -- one that comes may be heard, and is higher than the best
+  comes-waits : comes c j last best n ≡ true → waits c j last n ≡ true
+  unfolding comes
+  comes-waits t = and-true (fst-true (hearsFrom c j n) _ t) (fst-true (under c last n) _ (snd-true (hearsFrom c j n) _ t))
+
+  comes-over : comes c j last best n ≡ true → best < 16 → over c n best ≡ true
+  unfolding comes
+  comes-over t h = sym (chosen _ (lt-ltb best 16 h)) ∙ snd-true (under c last n) _ (snd-true (hearsFrom c j n) _ t)
+
+  -- one that may be heard comes if it is higher than the best, or if there is none
+  over-comes : waits c j last n ≡ true → best < 16 → over c n best ≡ true → comes c j last best n ≡ true
+  unfolding comes
+  over-comes w h u =
+      and-true (fst-true (hearsFrom c j n) _ w) (and-true (snd-true (hearsFrom c j n) _ w) (chosen _ (lt-ltb best 16 h) ∙ u))
+
+  first-comes : waits c j last n ≡ true → 16 ≤ best → comes c j last best n ≡ true
+  unfolding comes
+  first-comes w h =
+      and-true (fst-true (hearsFrom c j n) _ w) (and-true (snd-true (hearsFrom c j n) _ w) (other _ (le-ltb best 16 h)))
+
+-- ---- the best of all
+
 module _ (c : Channel) (j last : ℕ) (apart : Apart c j) where
   -- one place more
   more : (n best : ℕ) → n < 16 → First c j last n best → First c j last (suc n) (choose (comes c j last best n) n best)
-  unfolding comes
   more n best h f =
-      on (tested (hearsFrom c j n && (under c last n && choose (isPlace best) (over c n best) true)))
+      by-choice (First c j last (suc n)) (comes c j last best n)
       (λ t.
-      let heard = fst-true (hearsFrom c j n) _ t in
-      let rest = snd-true (hearsFrom c j n) _ t in
-      let low = fst-true (under c last n) _ rest in
-      let up = snd-true (under c last n) _ rest in
-      let e : choose (hearsFrom c j n && (under c last n && choose (isPlace best) (over c n best) true)) n best ≡ n = chosen _ t in
-      rw e
-      (record {
-        some = λ _. and-true heard low;
+      record {
+        some = λ _. comes-waits c j last best n t;
         below = λ _. omega arith;
         none = λ g. absurd (omega arith);
         first =
@@ -54,35 +71,29 @@ module _ (c : Channel) (j last : ℕ) (apart : Apart c j) where
             on (less i n)
             (λ g.
             let r = f .first i g w in
-            let above : over c n best ≡ true = sym (chosen _ (lt-ltb best 16 (r .0))) ∙ up in
+            let above = comes-over c j last best n t (r .0) in
             (h, inr (on (r .1) (λ q. rw q above) (λ q. transitive (rankOf (place c n)) (rankOf (place c best)) (rankOf (place c i)) above q))))
             (λ g. (h, inl (omega arith)));
-      }))
+      })
       (λ t.
-      let e : choose (hearsFrom c j n && (under c last n && choose (isPlace best) (over c n best) true)) n best ≡ best = other _ t in
-      rw e
-      (record {
+      record {
         some = f .some;
         below = λ g. let l = f .below g in omega arith;
         none = f .none;
         first = λ i l w. on (less i n) (λ g. f .first i g w) (λ g. let q : i ≡ n = omega arith in behind (rw q at w) q t);
-      }))
+      })
     where
       -- n may be heard, and does not come before the best: then there is a best, and it comes before n
-      behind :
-          {i : ℕ} → waits c j last n ≡ true → i ≡ n → (hearsFrom c j n && (under c last n && choose (isPlace best) (over c n best) true)) ≡ false →
-          (best < 16) × ((i ≡ best) ⊎ (over c best i ≡ true))
+      behind : {i : ℕ} → waits c j last n ≡ true → i ≡ n → comes c j last best n ≡ false → (best < 16) × ((i ≡ best) ⊎ (over c best i ≡ true))
       behind {i} w q t =
-          let heard = fst-true (hearsFrom c j n) _ w in
-          let low = snd-true (hearsFrom c j n) _ w in
           on (less best 16)
           (λ g. (
             g,
-            inr (rw q (on (total (rankOf (place c best)) (rankOf (place c n)) (apart .differ best n (fst-true _ _ (f .some g)) heard g h (λ z. let l = f .below g in omega arith)))
+            inr (rw q (on (total (rankOf (place c best)) (rankOf (place c n)) (apart .differ best n (fst-true _ _ (f .some g)) (fst-true _ _ w) g h (λ z. let l = f .below g in omega arith)))
                 (λ u. u)
-                (λ u. absurd (clash (and-true heard (and-true low (chosen _ (lt-ltb best 16 g) ∙ u))) t)))),
+                (λ u. absurd (clash (over-comes c j last best n w g u) t)))),
           ))
-          (λ g. absurd (clash (and-true heard (and-true low (other _ (le-ltb best 16 g)))) t))
+          (λ g. absurd (clash (first-comes c j last best n w g) t))
 
   among : (n : ℕ) → n ≤ 16 → First c j last n (nextAmong c j last n)
   unfolding nextAmong

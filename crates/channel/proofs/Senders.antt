@@ -5,15 +5,14 @@ use mathlib.Core.List.{[], _∷_, List·Memᴰ, List·Memᴰ·head, List·Memᴰ
 use Prim.Native.Nat.{ℕ, zero, suc, _<_, _≤_}
 use native.Mathlib.Omega.{arith}
 use borrow.Author.Tests.{lt-ltb, le-ltb}
-use Rattle.lists.proofs.Cases.{tested, less, chosen, other, and-true, fst-true, snd-true}
+use Rattle.lists.specs.Lists.{count}
+use Rattle.lists.proofs.Cases.{tested, less, chosen, other, and-true, fst-true, snd-true, on, clash}
+use Rattle.lists.proofs.Counting.{count-lt, count-size}
 use Rattle.heartbeat.proofs.Order.{irreflexive, transitive}
 use Rattle.server.specs.Server.{rankOf}
 use Rattle.channel.specs.declared.Channel.{Channel}
 use Rattle.channel.specs.Hearing.{place, hearsFrom, over, noPlace, nextSender, sendersAfter, senders}
-use Rattle.traces.specs.Facts.{count}
-use Rattle.traces.proofs.Laws.{on, clash}
-use Rattle.traces.proofs.Order.{count-lt, count-size}
-use Rattle.settling.proofs.Next.{Apart, under, waits, next-first}
+use Rattle.channel.proofs.Next.{Apart, under, waits, next-first}
 
 module _ (c : Channel) (j : ℕ) (apart : Apart c j) where
   -- the list opened: one comes next, or none
