@@ -89,7 +89,7 @@ fn group(rng: &mut Rng, least: u32, most: u32) -> Script {
 }
 
 /// Frames around those in which something is due.
-fn pause(rng: &mut Rng, period: u32) -> u32 {
+pub fn pause(rng: &mut Rng, period: u32) -> u32 {
     match rng.below(14) {
         0 => 0,
         1 => 1,

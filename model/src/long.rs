@@ -32,7 +32,7 @@ pub fn long_day(servers: u32, period: u32, gap: u32) -> Vec<u8> {
 }
 
 /// Mostly allowed; servers that fell are mostly brought back, and cut links mended.
-fn some_entry(rng: &mut Rng, script: &mut Script) {
+pub fn some_entry(rng: &mut Rng, script: &mut Script) {
     let place = script.some_server(rng);
     let other = script.some_other(rng, place);
     let has_other = place != other;
@@ -76,7 +76,7 @@ fn some_entry(rng: &mut Rng, script: &mut Script) {
 }
 
 /// The verb that brings a server one step nearer to backup.
-fn way_up(role: Role) -> Verb {
+pub fn way_up(role: Role) -> Verb {
     match role {
         Role::Down => Verb::Restart,
         Role::Idle => Verb::Start,

@@ -1,32 +1,46 @@
-//! A model of the playout group: days in, sheets out, written apart from the engine.
+//! A model of the playout group: days in, sheets out, and lists of calls with their answers,
+//! written apart from the engine.
 
+mod bench;
+mod calls;
 mod channel;
+mod compare;
 mod day;
 mod fast;
 mod generate;
+mod lists;
 mod long;
 mod script;
 mod text;
 
+#[cfg(test)]
+mod list_tests;
 #[cfg(test)]
 mod tests;
 
 use std::io::{self, Read, Write};
 use std::process::ExitCode;
 
-const USAGE: &str = "usage: model sheet | fast | day SEED | long SERVERS PERIOD GAP | check N\n\
+const USAGE: &str = "usage: model sheet | fast | day SEED | long SERVERS PERIOD GAP | check N |\n\
+    \x20      lists SEED N | calls | check-calls | bench-list CASE | time CASE\n\
     sheet, fast   a day on standard input, its sheet on standard output\n\
     day           a day made from a seed\n\
     long          a whole day, period at least the servers, gap 1 or more\n\
-    check         sheet against fast for seeds 1 to N\n";
+    check         sheet against fast for seeds 1 to N\n\
+    lists         N short lists of calls made from a seed\n\
+    calls         lists of calls on standard input, their answers on standard output\n\
+    check-calls   the plain answers against fast, for lists on standard input\n\
+    bench-list    a whole day as a list of calls, case a, b, c or d\n\
+    time          the best of three runs of a case in place, the bytes it writes, and FNV-1a over\n\
+    \x20             the number of each answer, as one byte, followed by the bytes written\n";
 
 fn main() -> ExitCode {
     let arguments: Vec<String> = std::env::args().skip(1).collect();
     let words: Vec<&str> = arguments.iter().map(String::as_str).collect();
     let numbers: Vec<u64> = words.iter().skip(1).filter_map(|word| word.parse().ok()).collect();
     let done = match (words.as_slice(), numbers.as_slice()) {
-        (["sheet"], _) => read_day().and_then(|input| print(&day::sheet(&input))),
-        (["fast"], _) => read_day().and_then(|input| fast::sheet(&input, io::stdout().lock())),
+        (["sheet"], _) => read_input().and_then(|input| print(&day::sheet(&input))),
+        (["fast"], _) => read_input().and_then(|input| fast::sheet(&input, io::stdout().lock())),
         (["day", _], &[seed]) => print(&generate::day(seed)),
         (["long", _, _, _], &[servers @ 1..=16, period @ 2..=250, gap @ 1..=2_159_999])
             if period >= servers =>
@@ -34,10 +48,20 @@ fn main() -> ExitCode {
             print(&long::long_day(servers as u32, period as u32, gap as u32))
         }
         (["check", _], &[count]) => return check(count),
-        _ => {
-            eprint!("{USAGE}");
-            return ExitCode::from(2);
+        (["lists", _, _], &[seed, count]) => {
+            print(&calls::write(&lists::lists(seed, count).concat()))
         }
+        (["calls"], _) => read_calls().and_then(|list| print_answers(&list)),
+        (["check-calls"], _) => read_calls().and_then(|list| check_calls(&list)),
+        (["bench-list", case], _) => match bench::Case::read(case) {
+            Some(case) => print(&calls::write(&bench::list(case, text::LAST_FRAME))),
+            None => return usage(),
+        },
+        (["time", case], _) => match bench::Case::read(case) {
+            Some(case) => print(time(case).as_bytes()),
+            None => return usage(),
+        },
+        _ => return usage(),
     };
     match done {
         Ok(()) => ExitCode::SUCCESS,
@@ -48,10 +72,47 @@ fn main() -> ExitCode {
     }
 }
 
-fn read_day() -> io::Result<Vec<u8>> {
+fn usage() -> ExitCode {
+    eprint!("{USAGE}");
+    ExitCode::from(2)
+}
+
+fn read_input() -> io::Result<Vec<u8>> {
     let mut input = Vec::new();
     io::stdin().lock().read_to_end(&mut input)?;
     Ok(input)
+}
+
+fn bad_line(line: usize, what: &str) -> io::Error {
+    io::Error::new(io::ErrorKind::InvalidData, format!("line {line}: {what}"))
+}
+
+fn read_calls() -> io::Result<Vec<calls::Call>> {
+    calls::read(&read_input()?).map_err(|line| bad_line(line, "not a call"))
+}
+
+fn print_answers(list: &[calls::Call]) -> io::Result<()> {
+    let answers = calls::answers(list);
+    print(&answers.map_err(|line| bad_line(line, "a call without a channel"))?)
+}
+
+/// Stops at the first call that the two programs answer in different ways.
+fn check_calls(list: &[calls::Call]) -> io::Result<()> {
+    match compare::compare(list) {
+        None => print(format!("{} calls, no difference\n", list.len()).as_bytes()),
+        Some(line) => Err(bad_line(line, "the answers differ")),
+    }
+}
+
+fn time(case: bench::Case) -> String {
+    let list = bench::list(case, text::LAST_FRAME);
+    let (best, refused, sum) = bench::time(&list);
+    let ms = best.as_secs_f64() * 1000.0;
+    let calls = list.iter().filter(|call| call.what.is_call()).count();
+    format!(
+        "{ms:.3} ms, {calls} calls, {refused} refused, {} bytes, checksum {:016x}\n",
+        sum.bytes, sum.check
+    )
 }
 
 fn print(bytes: &[u8]) -> io::Result<()> {

@@ -6,3 +6,6 @@ pub mod Frame
 pub mod Verbs
 pub mod Advance
 pub mod Calls
+pub mod Answers
+pub mod Steps
+pub mod Laws

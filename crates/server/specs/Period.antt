@@ -21,6 +21,10 @@ leastPeriod = 2
 abbrev pub greatestPeriod : ℕ
 greatestPeriod = 250
 
+-- a period for a channel that could not be opened
+abbrev pub shortest : Period
+shortest = record { frames = leastPeriod }
+
 -- "2. A number .. out of range."
 unfoldable pub takePeriod : ℕ → Answer
 takePeriod n = choose (leb leastPeriod n && leb n greatestPeriod) (accepted (n ∷ [])) (refused 2)

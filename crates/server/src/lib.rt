@@ -9,7 +9,7 @@ ghost use Prim.Native.Nat.{_<_, _≤_};
 ghost use Rattle.lists.specs.Choice.{choose};
 ghost use Rattle.refusal.specs.Answer.{numberOf};
 ghost use Rattle.text.specs.Write.{Writes};
-ghost use Rattle.server.specs.Period.{ofPeriod, takePeriod, silenceLimit, prospectLimit};
+ghost use Rattle.server.specs.Period.{ofPeriod, takePeriod, shortest, beatLimit, silenceLimit, prospectLimit};
 ghost use Rattle.server.specs.Server.{absent, idle, Makes, rankOf, inRole, oneMore, sendBeat, toProspect, cleared, plainOf, revealOf, passOf, sentAny, after};
 ghost use Rattle.server.specs.Hearing.{fromHigher, fromLower, forThis, backupHears, prospectHears, primaryHears, hears, attending, heard};
 ghost use Rattle.server.specs.Timers.{silent, beating, rising, timed};
@@ -146,6 +146,20 @@ impl Period {
         PeriodAnswer::Is(Period {
             frames: frames as u8,
         })
+    }
+
+    // The shortest period there is.
+    pub fn shortest() -> Period
+        ensures { λ r. ⌜ r ≡ shortest ⌝ }
+    {
+        Period { frames: 2 }
+    }
+
+    // The beat age at which a plain beat is sent.
+    pub fn beat_limit(self) -> u32
+        ensures { λ r. ⌜ r ≡ beatLimit self ⌝ }
+    {
+        self.frames as u32
     }
 
     // The silence age at which a backup suspects.
@@ -628,7 +642,8 @@ fn verb_event(verb: Verb, to: u16, k: u8) -> Event
     }
 }
 
-fn paired(verb: Verb) -> bool
+// Whether the verb has two identities.
+pub fn paired(verb: Verb) -> bool
     ensures { λ r. ⌜ r ≡ paired verb ⌝ }
 {
     match verb {

@@ -18,11 +18,12 @@ use Rattle.channel.specs.Outcome.{numberIn}
 use Rattle.channel.specs.Table.{most, empty, added, fresh}
 use Rattle.channel.specs.Hearing.{place, linkOf}
 use Rattle.channel.specs.Frame.{advanced}
-use Rattle.channel.specs.Verbs.{did}
 use Rattle.channel.specs.Advance.{advancedBy}
 use Rattle.channel.specs.Calls.{Call, verb, advance, advanceTo, outcomeOf, sliceOf, callNumber, callChannel, channelAfter}
+use Rattle.channel.proofs.Laws.{nothing-else-changes}
 use Rattle.traces.specs.Settling.{Settled}
 use Rattle.settling.specs.Demand.{withServers, tableOf, refusedIfVerb, verbsRefused, settlingTime, Led, Settles, DemandThree}
+use Rattle.settling.specs.Whole.{LinksAreAsCut}
 use Rattle.settling.proofs.Sound.{Sound, AllWhole}
 use Rattle.settling.proofs.Run.{runs, traceOf, frame-run, rank-run}
 use Rattle.settling.proofs.Instance.{channel-settles}
@@ -74,23 +75,17 @@ unfolding withServers
 neat-with t [] n = n
 neat-with t (r ∷ rs) n = neat-with (added t (r .identity) (r .priority)) rs (neat-added t (r .identity) (r .priority) n)
 
-period-by : (n : ℕ) (c : Channel) → advancedBy n c .period ≡ c .period
-unfolding advancedBy advanced
-period-by zero c = refl
-period-by (suc n) c = period-by n (advanced c)
-
-period-outcome : (c : Channel) (k : Call) → outcomeOf c k .channel .period ≡ c .period
-unfolding did advanced
-period-outcome c (verb v a b d) = refl
-period-outcome c (advance d) = refl
-period-outcome c (advanceTo t d) = period-by (t - c .frame) c
-
 period-after : (c : Channel) (ks : List Call) → channelAfter c ks .period ≡ c .period
 unfolding channelAfter
 period-after c [] = refl
-period-after c (k ∷ ks) =
-    period-after (callChannel c k) ks
-    ∙ on (handed c k) (λ r. ap (λ (d : Channel). d .period) (r .1) ∙ period-outcome c k) (λ r. ap (λ (d : Channel). d .period) (r .1))
+period-after c (k ∷ ks) = period-after (callChannel c k) ks ∙ nothing-else-changes c k .period
+
+-- ---- links
+
+pub links-are-as-cut : LinksAreAsCut
+links-are-as-cut n rs ks ok i j li lj =
+    links-after (fresh (tableOf rs) n) ks (sound-fresh (tableOf rs) n (neat-with empty rs neat-empty) ok) i j li lj false
+    (getD-replicate (most * most) (linkOf i j) true false (omega arith))
 
 -- ---- the theorem
 
@@ -136,6 +131,4 @@ settles n rs ks ok uncut i l a =
     sound = sound-after first ks begun
 
     links : AllWhole c
-    links i j li lj =
-        links-after first ks begun i j li lj false (getD-replicate (most * most) (linkOf i j) true false (omega arith))
-        ∙ ap not (uncut (place first i .identity) (place first j .identity))
+    links i j li lj = links-are-as-cut n rs ks ok i j li lj ∙ ap not (uncut (place first i .identity) (place first j .identity))

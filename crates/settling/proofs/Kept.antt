@@ -14,14 +14,14 @@ use Rattle.heartbeat.specs.Heartbeat.{sender}
 use Rattle.server.specs.declared.Role.{Role}
 use Rattle.server.specs.declared.Role.the-variants.{Down, Idle, Sync, Backup, Prospect, Primary}
 use Rattle.server.specs.declared.Event.{Event}
-use Rattle.server.specs.declared.Event.the-variants.{Nothing, ToBackup, ToProspectBeat, ToProspectReveal, Lower, Beat, ToPrimary, ToSync, ToIdle, ToDown, Passed}
 use Rattle.server.specs.declared.Period.{Period}
 use Rattle.server.specs.declared.Server.{Server}
 use Rattle.server.specs.Period.{silenceLimit, prospectLimit, beatLimit}
 use Rattle.server.specs.Server.{rankOf, inRole, setSilence, setBeat, sendBeat, after}
-use Rattle.server.specs.Hearing.{fromHigher, fromLower, forThis, backupHears, prospectHears, primaryHears, hearsIn, attending, heard}
-use Rattle.server.specs.Timers.{aged, silent, beating, rising, afterSilent, afterBeating, afterRising, timed}
+use Rattle.server.specs.Hearing.{fromHigher, fromLower, forThis, backupHears, prospectHears, primaryHears, attending, heard}
+use Rattle.server.specs.Timers.{aged, timed}
 use Rattle.channel.specs.Frame.{heardAll}
+use Rattle.channel.proofs.Laws.{rank-one, rank-heard}
 use Rattle.traces.specs.Trace.{isActive, isBeating}
 use Rattle.traces.proofs.Ways as ways
 use Rattle.channel.proofs.Inbox.{Falls}
@@ -120,45 +120,7 @@ module _ (p : Period) (t : ℕ) (some : 1 ≤ p .frames) where
         prospect-young = λ z. absurd (clash (ways.beating-active (m .role) (ways.prospect-beats z)) a);
       }))
 
--- ---- rank, activity and passes
-
-pub rank-after : (t : ℕ) (s : Server) (e : Event) → rankOf (after t s e) ≡ rankOf s
-unfolding after
-rank-after t s Nothing = refl
-rank-after t s ToBackup = refl
-rank-after t s ToProspectBeat = refl
-rank-after t s ToProspectReveal = refl
-rank-after t s Lower = refl
-rank-after t s Beat = refl
-rank-after t s ToPrimary = refl
-rank-after t s ToSync = refl
-rank-after t s ToIdle = refl
-rank-after t s ToDown = refl
-rank-after t s (Passed b) = refl
-
-rank-attending : (t : ℕ) (r : Role) (s : Server) → rankOf (attending t r s) ≡ rankOf s
-rank-attending t Down s = refl
-rank-attending t Idle s = refl
-rank-attending t Sync s = refl
-rank-attending t Backup s = refl
-rank-attending t Prospect s = refl
-rank-attending t Primary s = refl
-
-rank-one : (t : ℕ) (s : Server) (h : Heartbeat) → rankOf (heard t s h .server) ≡ rankOf s
-rank-one t s h = rank-after t (attending t (s .role) s) (hearsIn (s .role) s h) ∙ rank-attending t (s .role) s
-
-pub rank-heard : (t : ℕ) (s : Server) (hs : List Heartbeat) → rankOf (heardAll t s hs) ≡ rankOf s
-unfolding heardAll
-rank-heard t s [] = refl
-rank-heard t s (h ∷ hs) =
-    rank-heard t (heard t s h .server) hs ∙ rank-one t s h
-
-pub rank-ticked : (p : Period) (t : ℕ) (m : Server) → rankOf (timed t p m .server) ≡ rankOf m
-unfolding afterSilent afterBeating afterRising
-rank-ticked p t m =
-    rank-after t (afterBeating t p (afterSilent t p m)) (rising t p (afterBeating t p (afterSilent t p m)))
-    ∙ rank-after t (afterSilent t p m) (beating t p (afterSilent t p m))
-    ∙ rank-after t m (silent t p m)
+-- ---- activity and passes
 
 -- hearing passes to nobody
 pass-hearing : (t : ℕ) (s : Server) {e : Event} → IsHearing e → after t s e .pass ≡ s .pass

@@ -10,6 +10,7 @@ use lib.ListN.{length, getD, set}
 use Rattle.lists.specs.Choice.{choose}
 use Rattle.lists.specs.Lists.{indexWhere}
 use Rattle.lists.proofs.Cases.{tested, equal, chosen, other, and-true, and-left, and-right, fst-true, snd-true, on, not-first, same-choice, or-false}
+use Rattle.heartbeat.specs.declared.Rank.{Rank}
 use Rattle.server.specs.declared.Verb.{Verb}
 use Rattle.server.specs.declared.Verb.the-variants.{Start, Ready, Unready, Pass, Crash, Restart, Cut, Mend}
 use Rattle.server.specs.declared.Server.{Server}
@@ -23,9 +24,10 @@ use Rattle.channel.specs.Frame.{advanced}
 use Rattle.channel.specs.Verbs.{placeOf, inTable, namesNobody, known, stateRefusal, verbRefusal, did}
 use Rattle.channel.specs.Advance.{advancedBy}
 use Rattle.channel.specs.Calls.{Call, verb, advance, advanceTo, outcomeOf, sliceOf, callNumber, callChannel, channelAfter}
+use Rattle.channel.proofs.Laws.{taken, nothing-else-changes}
 use Rattle.settling.specs.Links.{cutByVerb, cutByCall, cutAfter}
-use Rattle.settling.proofs.Sound.{Sound, sound-advanced, identity-kept}
-use Rattle.settling.proofs.Reached.{set-cases, handed, identity-did, sound-call}
+use Rattle.settling.proofs.Sound.{Sound}
+use Rattle.settling.proofs.Reached.{set-cases, handed, sound-call}
 
 set-here : {A : Type 0} (l : List A) (i : ℕ) (x d : A) → i < length l → getD (set l i x) i d ≡ x
 set-here [] i x d h = absurd (omega arith)
@@ -112,14 +114,6 @@ module _ (c : Channel) (sound : Sound c) where
 
   -- ---- a call
 
-  -- a call that gets 0 otherwise gets it from its outcome
-  got-0 : (k : Call) → callNumber c k ≡ 0 → outcomeOf c k .number ≡ 0
-  unfolding callNumber numberIn
-  got-0 k e =
-      on (equal (outcomeOf c k .number) 0)
-      (λ z. z)
-      (λ z. sym (other {b = outcomeOf c k .number} _ (ne-eqb (outcomeOf c k .number) 0 z)) ∙ e)
-
   -- an accepted verb of two identities names two of the table
   named-two : (v : Verb) (x y : ℕ) → paired v ≡ true → verbRefusal c v x y ≡ 0 → (x ≡ 0 → ⊥) × (y ≡ 0 → ⊥) × (inTable c x ≡ true) × (inTable c y ≡ true)
   unfolding verbRefusal namesNobody known
@@ -174,28 +168,13 @@ module _ (c : Channel) (sound : Sound c) where
         on (handed c k)
         (λ r.
         ap (λ (d : Channel). whole d i j) (r .1)
-        ∙ cut-outcome k (got-0 k (r .0))
+        ∙ cut-outcome k (taken c k (r .0) .0)
         ∙ ap not (sym (chosen was (eq-eqb n 0 (r .0)))))
         (λ r.
         ap (λ (d : Channel). whole d i j) (r .1) ∙ w ∙ ap not (sym (other (cutByCall a b k was) (ne-eqb n 0 (r .0)))))
 
--- ---- identities
-
-identity-by : (n : ℕ) (c : Channel) → Sound c → (i : ℕ) → i < 16 → place (advancedBy n c) i .identity ≡ place c i .identity
-unfolding advancedBy
-identity-by zero c s i l = refl
-identity-by (suc n) c s i l = identity-by n (advanced c) (sound-advanced c s) i l ∙ identity-kept c s i l
-
-identity-outcome : (c : Channel) (k : Call) → Sound c → (i : ℕ) → i < 16 → place (outcomeOf c k .channel) i .identity ≡ place c i .identity
-identity-outcome c (verb v a b d) s i l = identity-did c s v a b i l
-identity-outcome c (advance d) s i l = identity-kept c s i l
-identity-outcome c (advanceTo t d) s i l = identity-by (t - c .frame) c s i l
-
-pub identity-call : (c : Channel) (k : Call) → Sound c → (i : ℕ) → i < 16 → place (callChannel c k) i .identity ≡ place c i .identity
-identity-call c k s i l =
-    on (handed c k)
-    (λ r. ap (λ (d : Channel). place d i .identity) (r .1) ∙ identity-outcome c k s i l)
-    (λ r. ap (λ (d : Channel). place d i .identity) (r .1))
+identity-call : (c : Channel) (k : Call) (i : ℕ) → place (callChannel c k) i .identity ≡ place c i .identity
+identity-call c k i = ap (λ (r : Rank). r .identity) (nothing-else-changes c k .ranks i)
 
 -- after a list of calls
 pub links-after :
@@ -207,5 +186,5 @@ links-after c (k ∷ ks) s i j li lj was w =
     let d = callChannel c k in
     let now = choose (eqb (callNumber c k) 0) (cutByCall (place c i .identity) (place c j .identity) k was) was in
     links-after d ks (sound-call c k s) i j li lj now (cut-call c s i j li lj was w k)
-    ∙ ap (λ (n : ℕ). not (cutAfter n (place d j .identity) d ks now)) (identity-call c k s i li)
-    ∙ ap (λ (n : ℕ). not (cutAfter (place c i .identity) n d ks now)) (identity-call c k s j lj)
+    ∙ ap (λ (n : ℕ). not (cutAfter n (place d j .identity) d ks now)) (identity-call c k i)
+    ∙ ap (λ (n : ℕ). not (cutAfter (place c i .identity) n d ks now)) (identity-call c k j)

@@ -31,10 +31,10 @@ use Rattle.channel.specs.Frame.{advanced}
 use Rattle.channel.specs.Verbs.{placeOf, happens, linksAfter, did}
 use Rattle.channel.specs.Advance.{advancedBy}
 use Rattle.channel.specs.Calls.{Call, verb, advance, advanceTo, outcomeOf, sliceOf, callChannel, channelAfter}
+use Rattle.channel.proofs.Laws.{rank-after}
 use Rattle.traces.specs.Trace.{isActive, isBeating}
 use Rattle.traces.proofs.Ways as ways
 use Rattle.settling.proofs.Young.{Young, YoungIn}
-use Rattle.settling.proofs.Kept.{rank-after}
 use Rattle.settling.proofs.Sound.{Sound, seatedIn, sound-advanced}
 
 -- an element after one is set: the same, or the one that was set

@@ -34,13 +34,14 @@ use Rattle.channel.specs.Hearing.{place, inbox}
 use Rattle.channel.specs.Frame.{heardAll}
 use Rattle.channel.specs.Verbs.{placeOf, happens}
 use Rattle.channel.specs.Calls.{channelAfter}
+use Rattle.channel.proofs.Laws.{rank-heard}
 use Rattle.traces.specs.Trace.{isActive, isBeating}
 use Rattle.traces.proofs.Ways as ways
 use Rattle.settling.specs.Demand.{tableOf}
 use Rattle.settling.specs.Sending.{Appends, TimersAppend, InOrderSent, SentInOrder}
 use Rattle.channel.proofs.Inbox.{Falls}
 use Rattle.settling.proofs.Heard.{rest-all}
-use Rattle.settling.proofs.Kept.{rank-heard, RevealerBeats, unrevealed, revealer-heard}
+use Rattle.settling.proofs.Kept.{RevealerBeats, unrevealed, revealer-heard}
 use Rattle.settling.proofs.Sound.{Sound, hears-falls, hears-apart}
 use Rattle.settling.proofs.Made.{neat-empty, sound-fresh}
 use Rattle.settling.proofs.Reached.{sound-after}

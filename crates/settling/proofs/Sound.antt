@@ -17,6 +17,7 @@ use Rattle.server.specs.Timers.{timed}
 use Rattle.channel.specs.declared.Channel.{Channel}
 use Rattle.channel.specs.Hearing.{place, whole, hearsFrom, inbox}
 use Rattle.channel.specs.Frame.{heardAll, hearing, turned, advanced}
+use Rattle.channel.proofs.Laws.{rank-heard, rank-ticked}
 use Rattle.traces.specs.Trace.{isActive, isBeating}
 use Rattle.channel.proofs.Places.{place-advanced, long-advanced}
 use Rattle.channel.proofs.Next.{Apart}
@@ -24,7 +25,7 @@ use Rattle.channel.proofs.Inbox.{Falls, inbox-falls}
 use Rattle.settling.proofs.Heard.{rest-all}
 use Rattle.settling.proofs.Young.{Young, due-next, due-heard}
 use Rattle.settling.proofs.Ticks.{ticks-rest}
-use Rattle.settling.proofs.Kept.{young-ticked, rank-heard, rank-ticked, pass-heard, pass-ticked, active-heard, active-ticked, RevealerBeats, revealer-heard, revealer-ticked}
+use Rattle.settling.proofs.Kept.{young-ticked, pass-heard, pass-ticked, active-heard, active-ticked, RevealerBeats, revealer-heard, revealer-ticked}
 
 -- a server stands in the place
 abbrev pub seatedIn : Channel → ℕ → Bool

@@ -3,3 +3,4 @@ pub mod Demand
 pub mod Examples
 pub mod Sending
 pub mod Figure
+pub mod Whole

@@ -1,0 +1,4 @@
+pub mod Calling
+pub mod Going
+pub mod Ending
+pub mod Encoded

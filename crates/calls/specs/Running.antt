@@ -1,0 +1,47 @@
+-- A whole list of calls, from a fresh channel on.
+use mathlib.Core.List.{List, [], _∷_, _++_}
+use mathlib.Core.Path.{_≡_}
+use Prim.Native.Nat.{ℕ, _<_}
+use lib.Dec.{eqb, leb}
+use lib.ListN.{length, take, drop}
+use Rattle.lists.specs.Choice.{choose}
+use Rattle.lists.specs.Splice.{splice}
+use Rattle.refusal.specs.Answer.{ofVerdict}
+use Rattle.heartbeat.specs.declared.Rank.{Rank}
+use Rattle.channel.specs.declared.Table.{Table}
+use Rattle.channel.specs.declared.Channel.{Channel}
+use Rattle.channel.specs.Table.{most, freshRefusal, fresh}
+use Rattle.channel.specs.Answers.{closed}
+use Rattle.channel.specs.Calls.{Call, callChannel, callSlice, channelAfter, numbersOf}
+use Rattle.settling.specs.Links.{NoLinkCut}
+use Rattle.settling.specs.Demand.{tableOf, InThoseRoles, settlingTime, Settles}
+use Rattle.calls.specs.declared.Ended.{Ended}
+use Rattle.calls.specs.Encoding.{callOf, callsOf, EveryListEncodes}
+
+-- the bytes d that the calls are lent one after the other, after all of them
+unfoldable pub bytesAfter : Channel → List ℕ → List ℕ → List ℕ
+bytesAfter c d [] = d
+bytesAfter c d (k ∷ []) = d
+bytesAfter c d (k ∷ m ∷ ks) = let call = callOf k (take m d) in bytesAfter (callChannel c call) (callSlice c call ++ drop m d) ks
+
+-- "Its first call gets a fresh channel, with any table and P that are not refused. Each later call gets the channel that the call before it handed
+-- back": the calls that the numbers ks encode, each lent the first bytes of d, on the fresh channel of the table t with the period n. Their numbers
+-- go to e: 2, 6, 7 where no channel is opened, 9 where e is too short, and then nothing is called
+module _ (t : Table) (n : ℕ) (ks d e : List ℕ) where
+  abbrev pub listed : List Call
+  listed = callsOf (length d) ks
+
+  unfoldable pub listRefusal : ℕ
+  listRefusal = choose (eqb (freshRefusal t n) 0) (choose (leb (length listed) (length e)) 0 9) (freshRefusal t n)
+
+  pub record RunsList (r : Ended) (d′ e′ : List ℕ) : Type 0 where
+    pub number : ofVerdict (r .verdict) ≡ listRefusal
+    pub channel : r .channel ≡ choose (eqb listRefusal 0) (channelAfter (fresh t n) listed) closed
+    pub numbers : e′ ≡ choose (eqb listRefusal 0) (splice e 0 (numbersOf (fresh t n) listed)) e
+    pub bytes : d′ ≡ choose (eqb listRefusal 0) (bytesAfter (fresh t n) d ks) d
+    -- every list of calls has such numbers
+    pub encodes : EveryListEncodes
+    -- demand 3, of the channel that the list ends with
+    pub settles :
+        (rs : List Rank) → t ≡ tableOf rs → ofVerdict (r .verdict) ≡ 0 → NoLinkCut (fresh t n) listed → (i : ℕ) → i < most → InThoseRoles (r .channel) i →
+        Settles (settlingTime n) (r .channel)

@@ -1,0 +1,7 @@
+pub mod Making
+pub mod Laws
+pub mod Data
+pub mod Types
+pub mod InPlace0
+pub mod InPlace1
+pub mod InPlace2

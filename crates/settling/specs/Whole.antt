@@ -1,0 +1,17 @@
+-- The links that a channel keeps are as its calls left them. The proof is in proofs/Demand.antt.
+use mathlib.Core.Bool.{false, not}
+use mathlib.Core.Path.{_≡_}
+use mathlib.Core.List.{List}
+use Prim.Native.Nat.{ℕ, _<_}
+use Rattle.heartbeat.specs.declared.Rank.{Rank}
+use Rattle.channel.specs.Table.{most, freshRefusal, fresh}
+use Rattle.channel.specs.Hearing.{place, whole}
+use Rattle.channel.specs.Calls.{Call, channelAfter}
+use Rattle.settling.specs.Links.{cutAfter}
+use Rattle.settling.specs.Demand.{tableOf}
+
+-- after any list of calls on a fresh channel, the link from place i to place j is whole if and only if `cutAfter` does not say that it is cut
+abbrev pub LinksAreAsCut : Type 0
+LinksAreAsCut =
+    (n : ℕ) (rs : List Rank) (ks : List Call) → freshRefusal (tableOf rs) n ≡ 0 → (i j : ℕ) → i < most → j < most →
+    let c = fresh (tableOf rs) n in whole (channelAfter c ks) i j ≡ not (cutAfter (place c i .identity) (place c j .identity) c ks false)
