@@ -30,7 +30,7 @@ use Rattle.channel.specs.Advance.{advancedBy, linesBy, timeRefusal}
 use Rattle.channel.specs.Calls.{Call, verb, advance, advanceTo, callNumber, callChannel, channelAfter}
 use Rattle.settling.specs.Links.{cutByCall, cutAfter, NoLinkCut}
 use Rattle.settling.specs.Demand.{withServers, tableOf}
-use Rattle.settling.specs.Examples.{rising, mixed, rolesOf, lent, allReady, lateReady, lowerBeats, slowest, passing, twoPrimaries, start, Example, Examples}
+use Rattle.settling.specs.Examples.{threeHighest, twoHighest, rolesOf, lent, allReady, lateReady, lowerBeats, slowest, passing, twoPrimaries, opened, Example, Examples}
 
 -- ---- links that a list does not touch stay as they were
 
@@ -82,76 +82,76 @@ ready u = more refl (more refl (more refl (more refl (more refl (more refl u))))
 
 says : List Rank → List Call → List ℕ → List ℕ → List ℕ → Bool
 says rs ks ended next settled =
-    eqb (channelAfter (start rs) ks .frame) 12
-    && (same (rolesOf (channelAfter (start rs) ks)) ended
-    && (same (rolesOf (advanced (channelAfter (start rs) ks))) next
-    && same (rolesOf (channelAfter (channelAfter (start rs) ks) (advanceTo 26 lent ∷ []))) settled))
+    eqb (channelAfter (opened rs) ks .frame) 12
+    && (same (rolesOf (channelAfter (opened rs) ks)) ended
+    && (same (rolesOf (advanced (channelAfter (opened rs) ks))) next
+    && same (rolesOf (channelAfter (channelAfter (opened rs) ks) (advanceTo 26 lent ∷ []))) settled))
 
 example :
     (rs : List Rank) (ks : List Call) (ended next settled : List ℕ) → freshRefusal (tableOf rs) 3 ≡ 0 → says rs ks ended next settled ≡ true →
-    NoLinkCut (start rs) ks → Example rs ks ended next settled
+    NoLinkCut (opened rs) ks → Example rs ks ended next settled
 unfolding says
 example rs ks ended next settled taken e u =
-    let f = snd-true (eqb (channelAfter (start rs) ks .frame) 12) _ e in
-    let g = snd-true (same (rolesOf (channelAfter (start rs) ks)) ended) _ f in
+    let f = snd-true (eqb (channelAfter (opened rs) ks .frame) 12) _ e in
+    let g = snd-true (same (rolesOf (channelAfter (opened rs) ks)) ended) _ f in
     record {
       table = taken;
       uncut = u;
-      ends = eqb-true _ _ (fst-true (eqb (channelAfter (start rs) ks .frame) 12) _ e);
+      ends = eqb-true _ _ (fst-true (eqb (channelAfter (opened rs) ks .frame) 12) _ e);
       roles = same-equal _ _ (fst-true _ _ f);
       after = same-equal _ _ (fst-true _ _ g);
-      later = same-equal _ _ (snd-true (same (rolesOf (advanced (channelAfter (start rs) ks))) next) _ g);
+      later = same-equal _ _ (snd-true (same (rolesOf (advanced (channelAfter (opened rs) ks))) next) _ g);
     }
 
 -- all of them, the one frame sooner, and the one link that two of them cut and mend
 computed :
-    (says rising lowerBeats (5 ∷ 3 ∷ 3 ∷ []) (5 ∷ 3 ∷ 3 ∷ []) (5 ∷ 3 ∷ 3 ∷ [])
-    && (says rising slowest (3 ∷ 5 ∷ 3 ∷ []) (3 ∷ 3 ∷ 3 ∷ []) (3 ∷ 3 ∷ 5 ∷ [])
-    && (says mixed lateReady (3 ∷ 3 ∷ 3 ∷ []) (3 ∷ 3 ∷ 3 ∷ []) (3 ∷ 5 ∷ 3 ∷ [])
-    && (says rising passing (3 ∷ 3 ∷ 3 ∷ []) (4 ∷ 3 ∷ 3 ∷ []) (5 ∷ 3 ∷ 3 ∷ [])
-    && (says rising twoPrimaries (3 ∷ 5 ∷ 5 ∷ []) (3 ∷ 3 ∷ 5 ∷ []) (3 ∷ 3 ∷ 5 ∷ [])
-    && (same (rolesOf (channelAfter (channelAfter (start rising) slowest) (advanceTo 25 lent ∷ []))) (3 ∷ 3 ∷ 4 ∷ [])
-    && (not (cutAfter 3 2 (start rising) slowest false) && not (cutAfter 3 2 (start rising) twoPrimaries false)))))))) ≡ true
+    (says threeHighest lowerBeats (5 ∷ 3 ∷ 3 ∷ []) (5 ∷ 3 ∷ 3 ∷ []) (5 ∷ 3 ∷ 3 ∷ [])
+    && (says threeHighest slowest (3 ∷ 5 ∷ 3 ∷ []) (3 ∷ 3 ∷ 3 ∷ []) (3 ∷ 3 ∷ 5 ∷ [])
+    && (says twoHighest lateReady (3 ∷ 3 ∷ 3 ∷ []) (3 ∷ 3 ∷ 3 ∷ []) (3 ∷ 5 ∷ 3 ∷ [])
+    && (says threeHighest passing (3 ∷ 3 ∷ 3 ∷ []) (4 ∷ 3 ∷ 3 ∷ []) (5 ∷ 3 ∷ 3 ∷ [])
+    && (says threeHighest twoPrimaries (3 ∷ 5 ∷ 5 ∷ []) (3 ∷ 3 ∷ 5 ∷ []) (3 ∷ 3 ∷ 5 ∷ [])
+    && (same (rolesOf (channelAfter (channelAfter (opened threeHighest) slowest) (advanceTo 25 lent ∷ []))) (3 ∷ 3 ∷ 4 ∷ [])
+    && (not (cutAfter 3 2 (opened threeHighest) slowest false) && not (cutAfter 3 2 (opened threeHighest) twoPrimaries false)))))))) ≡ true
 unfolding says choose same digits label higher oneMore sentBy sentAny after forThis backupHears prospectHears primaryHears afterSilent afterBeating afterRising from enters entering verbHappens verbAnswer numberIn channelIn placeIn standsBefore enter addRefusal added line linesOf hearsFrom comes nextAmong nextSender sendersAfter sentByAll inbox heardAll heardLines timedLines hearing turned turnLines turnsLines advanced frameLines namesNobody known stateRefusal verbRefusal did advancedBy linesBy timeRefusal callChannel callNumber channelAfter withServers cutAfter cutByCall
 computed = refl
 
 -- a list that cuts and mends the link from 3 to 2, and no other
 mended :
-    (rs : List Rank) (ks : List Call) → cutAfter 3 2 (start rs) ks false ≡ false → ((a b : ℕ) → (eqb 3 a && eqb 2 b) ≡ false → Untouched a b ks) →
-    NoLinkCut (start rs) ks
+    (rs : List Rank) (ks : List Call) → cutAfter 3 2 (opened rs) ks false ≡ false → ((a b : ℕ) → (eqb 3 a && eqb 2 b) ≡ false → Untouched a b ks) →
+    NoLinkCut (opened rs) ks
 mended rs ks e u a b =
     on (tested (eqb 3 a && eqb 2 b))
     (λ t.
     let x = eqb-true 3 a (fst-true (eqb 3 a) (eqb 2 b) t) in
     let y = eqb-true 2 b (snd-true (eqb 3 a) (eqb 2 b) t) in
-    ap (λ (n : ℕ). cutAfter n b (start rs) ks false) (sym x) ∙ ap (λ (n : ℕ). cutAfter 3 n (start rs) ks false) (sym y) ∙ e)
-    (λ t. untouched a b (start rs) ks false (u a b t))
+    ap (λ (n : ℕ). cutAfter n b (opened rs) ks false) (sym x) ∙ ap (λ (n : ℕ). cutAfter 3 n (opened rs) ks false) (sym y) ∙ e)
+    (λ t. untouched a b (opened rs) ks false (u a b t))
 
-rising-taken : freshRefusal (tableOf rising) 3 ≡ 0
+taken-three : freshRefusal (tableOf threeHighest) 3 ≡ 0
 unfolding choose freshRefusal takePeriod placeIn standsBefore enter addRefusal added withServers
-rising-taken = refl
+taken-three = refl
 
-mixed-taken : freshRefusal (tableOf mixed) 3 ≡ 0
+taken-two : freshRefusal (tableOf twoHighest) 3 ≡ 0
 unfolding choose freshRefusal takePeriod placeIn standsBefore enter addRefusal added withServers
-mixed-taken = refl
+taken-two = refl
 
 pub examples : Examples
 unfolding touches
 examples =
-    let c1 = snd-true (says rising lowerBeats (5 ∷ 3 ∷ 3 ∷ []) (5 ∷ 3 ∷ 3 ∷ []) (5 ∷ 3 ∷ 3 ∷ [])) _ computed in
-    let c2 = snd-true (says rising slowest (3 ∷ 5 ∷ 3 ∷ []) (3 ∷ 3 ∷ 3 ∷ []) (3 ∷ 3 ∷ 5 ∷ [])) _ c1 in
-    let c3 = snd-true (says mixed lateReady (3 ∷ 3 ∷ 3 ∷ []) (3 ∷ 3 ∷ 3 ∷ []) (3 ∷ 5 ∷ 3 ∷ [])) _ c2 in
-    let c4 = snd-true (says rising passing (3 ∷ 3 ∷ 3 ∷ []) (4 ∷ 3 ∷ 3 ∷ []) (5 ∷ 3 ∷ 3 ∷ [])) _ c3 in
-    let c5 = snd-true (says rising twoPrimaries (3 ∷ 5 ∷ 5 ∷ []) (3 ∷ 3 ∷ 5 ∷ []) (3 ∷ 3 ∷ 5 ∷ [])) _ c4 in
-    let c6 = snd-true (same (rolesOf (channelAfter (channelAfter (start rising) slowest) (advanceTo 25 lent ∷ []))) (3 ∷ 3 ∷ 4 ∷ [])) _ c5 in
+    let c1 = snd-true (says threeHighest lowerBeats (5 ∷ 3 ∷ 3 ∷ []) (5 ∷ 3 ∷ 3 ∷ []) (5 ∷ 3 ∷ 3 ∷ [])) _ computed in
+    let c2 = snd-true (says threeHighest slowest (3 ∷ 5 ∷ 3 ∷ []) (3 ∷ 3 ∷ 3 ∷ []) (3 ∷ 3 ∷ 5 ∷ [])) _ c1 in
+    let c3 = snd-true (says twoHighest lateReady (3 ∷ 3 ∷ 3 ∷ []) (3 ∷ 3 ∷ 3 ∷ []) (3 ∷ 5 ∷ 3 ∷ [])) _ c2 in
+    let c4 = snd-true (says threeHighest passing (3 ∷ 3 ∷ 3 ∷ []) (4 ∷ 3 ∷ 3 ∷ []) (5 ∷ 3 ∷ 3 ∷ [])) _ c3 in
+    let c5 = snd-true (says threeHighest twoPrimaries (3 ∷ 5 ∷ 5 ∷ []) (3 ∷ 3 ∷ 5 ∷ []) (3 ∷ 3 ∷ 5 ∷ [])) _ c4 in
+    let c6 = snd-true (same (rolesOf (channelAfter (channelAfter (opened threeHighest) slowest) (advanceTo 25 lent ∷ []))) (3 ∷ 3 ∷ 4 ∷ [])) _ c5 in
     record {
-      lower-beats = example rising lowerBeats _ _ _ rising-taken (fst-true _ _ computed)
-          (λ a b. untouched a b (start rising) lowerBeats false (more refl (more refl (more refl (more refl (more refl (more refl (more refl none))))))));
-      takes-all = example rising slowest _ _ _ rising-taken (fst-true _ _ c1)
-          (mended rising slowest (not-true _ (fst-true _ _ c6)) (λ a b t. ready (more refl (more t (more refl (more refl (more t none)))))));
-      by-priority = example mixed lateReady _ _ _ mixed-taken (fst-true _ _ c2) (λ a b. untouched a b (start mixed) lateReady false (more refl (ready none)));
-      passes = example rising passing _ _ _ rising-taken (fst-true _ _ c3) (λ a b. untouched a b (start rising) passing false (ready (more refl (more refl none))));
-      two-beat = example rising twoPrimaries _ _ _ rising-taken (fst-true _ _ c4)
-          (mended rising twoPrimaries (not-true _ (snd-true (not (cutAfter 3 2 (start rising) slowest false)) _ c6)) (λ a b t. ready (more refl (more t (more refl (more t none))))));
+      lower-beats = example threeHighest lowerBeats _ _ _ taken-three (fst-true _ _ computed)
+          (λ a b. untouched a b (opened threeHighest) lowerBeats false (more refl (more refl (more refl (more refl (more refl (more refl (more refl none))))))));
+      takes-all = example threeHighest slowest _ _ _ taken-three (fst-true _ _ c1)
+          (mended threeHighest slowest (not-true _ (fst-true _ _ c6)) (λ a b t. ready (more refl (more t (more refl (more refl (more t none)))))));
+      by-priority = example twoHighest lateReady _ _ _ taken-two (fst-true _ _ c2) (λ a b. untouched a b (opened twoHighest) lateReady false (more refl (ready none)));
+      passes = example threeHighest passing _ _ _ taken-three (fst-true _ _ c3) (λ a b. untouched a b (opened threeHighest) passing false (ready (more refl (more refl none))));
+      two-beat = example threeHighest twoPrimaries _ _ _ taken-three (fst-true _ _ c4)
+          (mended threeHighest twoPrimaries (not-true _ (snd-true (not (cutAfter 3 2 (opened threeHighest) slowest false)) _ c6)) (λ a b t. ready (more refl (more t (more refl (more t none))))));
       needs-all = same-equal _ _ (fst-true _ _ c5);
     }

@@ -38,7 +38,7 @@ use Rattle.channel.proofs.Laws.{rank-heard}
 use Rattle.traces.specs.Trace.{isActive, isBeating}
 use Rattle.traces.proofs.Ways as ways
 use Rattle.settling.specs.Demand.{tableOf}
-use Rattle.settling.specs.Sending.{Appends, TimersAppend, InOrderSent, SentInOrder}
+use Rattle.settling.specs.Sending.{Appends, TimersAppend, AppendsAll, SentInOrder}
 use Rattle.channel.proofs.Inbox.{Falls}
 use Rattle.settling.proofs.Heard.{rest-all}
 use Rattle.settling.proofs.Kept.{RevealerBeats, unrevealed, revealer-heard}
@@ -349,7 +349,7 @@ module _ (c : Channel) (sound : Sound c) where
           ap (λ (x : Server). x .pass) (List·getD-eq-default (c .servers) absent {n = i} (omega (arith, z, g))))
           e
 
-  pub in-order : InOrderSent c
+  pub in-order : AppendsAll c
   in-order = record { begins = λ i l. begun (place c i); hearing = hearing-appends; timers = timers-append; verbs = verbs-append }
 
 pub sent-in-order : SentInOrder

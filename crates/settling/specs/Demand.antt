@@ -1,4 +1,5 @@
--- Demand 3, as "Lists of calls" of document 01 reads it, of the definitions of the calls. The proof is `settles` of proofs/Demand.antt.
+-- Demand 3, as "Lists of calls" of document 01 reads it, of the definitions of the calls. Quotes marked (demand 3) are the demand's own
+-- words, the others document 01's. The proof is `settles` of proofs/Demand.antt.
 use mathlib.Core.Bool.{Bool, true, false, not, _&&_}
 use mathlib.Core.Path.{_≡_}
 use mathlib.Core.Logic.{_⊎_, _≢_}
@@ -19,7 +20,7 @@ use Rattle.channel.specs.Calls.{Call, verb, advance, advanceTo, callNumber, cal
 use Rattle.traces.specs.Trace.{isActive, isBeating}
 use Rattle.settling.specs.Links.{NoLinkCut}
 
--- "any table": servers added one after the other, in any order. One that is refused leaves the table as it was
+-- "any table and P that are not refused": servers added one after the other, in any order. One that is refused leaves the table as it was
 unfoldable pub withServers : Table → List Rank → Table
 withServers t [] = t
 withServers t (r ∷ rs) = withServers (added t (r .identity) (r .priority)) rs
@@ -41,42 +42,44 @@ unfoldable pub verbsRefused : Channel → List Call → Bool
 verbsRefused c [] = true
 verbsRefused c (k ∷ ks) = refusedIfVerb c k && verbsRefused (callChannel c k) ks
 
--- "in backup, prospect or primary": the server of place i
+-- (demand 3) "in backup, prospect or primary": the server of place i
 abbrev pub InThoseRoles : Channel → ℕ → Type 0
 InThoseRoles c i = isActive (place c i .role) ≡ true
 
--- "none was prospect or primary"
+-- (demand 3) "none was prospect or primary"
 abbrev pub NoneProspectOrPrimary : Channel → Type 0
 NoneProspectOrPrimary c = (i : ℕ) → i < most → isBeating (place c i .role) ≡ false
 
--- "it is the highest of them"
+-- (demand 3) "it is the highest of them"
 abbrev pub HighestOfThem : Channel → ℕ → Type 0
 HighestOfThem c h = (i : ℕ) → i < most → InThoseRoles c i → (i ≡ h) ⊎ (over c h i ≡ true)
 
--- "exactly one server is primary, .. and each other that was in one of those roles is in backup": c is the channel after the first
--- list, d the one after the calls that follow, h the place of the one server. A place keeps its identity and its priority
+-- (demand 3) "exactly one server is primary, .. and each other that was in one of those roles is in backup": c is the channel after the
+-- first list, d the one after the calls that follow, h the place of the one server. A place keeps its identity and its priority; that it
+-- has kept those of the table during the first list is `KeepsItsTable` of the crate channel
 pub record Led (c : Channel) (h : ℕ) (d : Channel) : Type 0 where
   pub primary : place d h .role ≡ Primary
   pub alone : (i : ℕ) → i < most → place d i .role ≡ Primary → i ≡ h
   pub backups : (i : ℕ) → i < most → i ≢ h → InThoseRoles c i → place d i .role ≡ Backup
   pub ranks : (i : ℕ) → i < most → rankOf (place d i) ≡ rankOf (place c i)
 
--- "4 periods and 2 frames later"
+-- (demand 3) "4 periods and 2 frames later"
 abbrev pub settlingTime : ℕ → ℕ
 settlingTime n = 4 * n + 2
 
--- the channel c is settled w frames later: "ever after exactly one server is primary, always the same"
+-- the channel c is settled w frames later; (demand 3) "ever after exactly one server is primary, always the same"
 pub record Settles (w : ℕ) (c : Channel) : Type 0 where
   pub server : ℕ
   pub known : server < most
   pub was : InThoseRoles c server
   pub led : (ls : List Call) → verbsRefused c ls ≡ true → c .frame + w ≤ channelAfter c ls .frame → Led c server (channelAfter c ls)
-  -- "an accepted one over several frames is as many advances": the frames inside of it, too
+  -- "an accepted one over several frames is as many advances" (`AsManyAdvances` of the crate channel): the frames inside of it, too. Said
+  -- of every number of frames, also of one that the day is too short for
   pub within : (k : ℕ) → w ≤ k → Led c server (advancedBy k c)
-  -- "if none was prospect or primary one frame after the list, it is the highest of them"
+  -- (demand 3) "if none was prospect or primary one frame after the list, it is the highest of them"
   pub highest : NoneProspectOrPrimary (advanced c) → HighestOfThem c server
 
--- "After any list of calls from a fresh channel, refused ones included: with no link cut, some server in backup, prospect or
+-- (demand 3) "After any list of calls from a fresh channel, refused ones included: with no link cut, some server in backup, prospect or
 -- primary": a channel with the period n is settled w frames later
 abbrev pub SettlesIn : ℕ → ℕ → Type 0
 SettlesIn n w =

@@ -23,12 +23,12 @@ ranked a b d =
     ∷ []
 
 -- 3 is the highest and 1 the lowest
-abbrev pub rising : List Rank
-rising = ranked 10 20 30
+abbrev pub threeHighest : List Rank
+threeHighest = ranked 10 20 30
 
 -- 2 is the highest and 1 the lowest
-abbrev pub mixed : List Rank
-mixed = ranked 10 30 20
+abbrev pub twoHighest : List Rank
+twoHighest = ranked 10 30 20
 
 -- their roles by number: 3 is backup, 4 prospect, 5 primary
 abbrev pub rolesOf : Channel → List ℕ
@@ -74,33 +74,33 @@ slowest = allReady (advanceTo 6 lent ∷ verb Cut 3 2 lent ∷ advanceTo 12 lent
 abbrev pub passing : List Call
 passing = allReady (advanceTo 12 lent ∷ verb Pass 3 1 lent ∷ [])
 
--- two primaries, and the link between them mended in frame t
+-- two primaries, and the cut link, from one of them to the other, mended in frame t
 abbrev pub twoPrimaries : List Call
 twoPrimaries = allReady (advanceTo 6 lent ∷ verb Cut 3 2 lent ∷ advanceTo 12 lent ∷ verb Mend 3 2 lent ∷ [])
 
-abbrev pub start : List Rank → Channel
-start rs = fresh (tableOf rs) 3
+abbrev pub opened : List Rank → Channel
+opened rs = fresh (tableOf rs) 3
 
 -- what holds of the servers rs and the list ks, which ends in frame 12: the table is taken, no link is cut, and the roles when the list
 -- ends, in frame t + 1, and in frame t + 4 × P + 2 = 26
 pub record Example (rs : List Rank) (ks : List Call) (ended next settled : List ℕ) : Type 0 where
   pub table : freshRefusal (tableOf rs) 3 ≡ 0
-  pub uncut : NoLinkCut (start rs) ks
-  pub ends : channelAfter (start rs) ks .frame ≡ 12
-  pub roles : rolesOf (channelAfter (start rs) ks) ≡ ended
-  pub after : rolesOf (advanced (channelAfter (start rs) ks)) ≡ next
-  pub later : rolesOf (channelAfter (channelAfter (start rs) ks) (advanceTo 26 lent ∷ [])) ≡ settled
+  pub uncut : NoLinkCut (opened rs) ks
+  pub ends : channelAfter (opened rs) ks .frame ≡ 12
+  pub roles : rolesOf (channelAfter (opened rs) ks) ≡ ended
+  pub after : rolesOf (advanced (channelAfter (opened rs) ks)) ≡ next
+  pub later : rolesOf (channelAfter (channelAfter (opened rs) ks) (advanceTo 26 lent ∷ [])) ≡ settled
 
 pub record Examples : Type 0 where
   -- 1 is the one, and not the highest
-  pub lower-beats : Example rising lowerBeats (5 ∷ 3 ∷ 3 ∷ []) (5 ∷ 3 ∷ 3 ∷ []) (5 ∷ 3 ∷ 3 ∷ [])
+  pub lower-beats : Example threeHighest lowerBeats (5 ∷ 3 ∷ 3 ∷ []) (5 ∷ 3 ∷ 3 ∷ []) (5 ∷ 3 ∷ 3 ∷ [])
   -- nobody is prospect or primary at the end of frame t + 1, and the highest is the one
-  pub takes-all : Example rising slowest (3 ∷ 5 ∷ 3 ∷ []) (3 ∷ 3 ∷ 3 ∷ []) (3 ∷ 3 ∷ 5 ∷ [])
+  pub takes-all : Example threeHighest slowest (3 ∷ 5 ∷ 3 ∷ []) (3 ∷ 3 ∷ 3 ∷ []) (3 ∷ 3 ∷ 5 ∷ [])
   -- so too where the highest has neither the greatest identity nor the least
-  pub by-priority : Example mixed lateReady (3 ∷ 3 ∷ 3 ∷ []) (3 ∷ 3 ∷ 3 ∷ []) (3 ∷ 5 ∷ 3 ∷ [])
+  pub by-priority : Example twoHighest lateReady (3 ∷ 3 ∷ 3 ∷ []) (3 ∷ 3 ∷ 3 ∷ []) (3 ∷ 5 ∷ 3 ∷ [])
   -- the pass is heard in frame t + 1
-  pub passes : Example rising passing (3 ∷ 3 ∷ 3 ∷ []) (4 ∷ 3 ∷ 3 ∷ []) (5 ∷ 3 ∷ 3 ∷ [])
+  pub passes : Example threeHighest passing (3 ∷ 3 ∷ 3 ∷ []) (4 ∷ 3 ∷ 3 ∷ []) (5 ∷ 3 ∷ 3 ∷ [])
   -- two primaries, of which the higher is the one
-  pub two-beat : Example rising twoPrimaries (3 ∷ 5 ∷ 5 ∷ []) (3 ∷ 3 ∷ 5 ∷ []) (3 ∷ 3 ∷ 5 ∷ [])
+  pub two-beat : Example threeHighest twoPrimaries (3 ∷ 5 ∷ 5 ∷ []) (3 ∷ 3 ∷ 5 ∷ []) (3 ∷ 3 ∷ 5 ∷ [])
   -- not a frame sooner: 3 is prospect in frame t + 4 × P + 1
-  pub needs-all : rolesOf (channelAfter (channelAfter (start rising) slowest) (advanceTo 25 lent ∷ [])) ≡ 3 ∷ 3 ∷ 4 ∷ []
+  pub needs-all : rolesOf (channelAfter (channelAfter (opened threeHighest) slowest) (advanceTo 25 lent ∷ [])) ≡ 3 ∷ 3 ∷ 4 ∷ []

@@ -32,6 +32,6 @@ unfoldable pub cutAfter : ℕ → ℕ → Channel → List Call → Bool → Boo
 cutAfter a b c [] was = was
 cutAfter a b c (k ∷ ks) was = cutAfter a b (callChannel c k) ks (choose (eqb (callNumber c k) 0) (cutByCall a b k was) was)
 
--- "with no link cut": after the calls ks on the channel c, in which none was
+-- demand 3's "with no link cut": after the calls ks on the channel c, in which none was
 abbrev pub NoLinkCut : Channel → List Call → Type 0
 NoLinkCut c ks = (a b : ℕ) → cutAfter a b c ks false ≡ false

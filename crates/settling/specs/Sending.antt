@@ -48,7 +48,7 @@ pub record TimersAppend (t : ℕ) (c : Channel) (m : Server) : Type 0 where
   pub rise : Appends t (afterBeating t (c .period) (afterSilent t (c .period) m)) (rising t (c .period) (afterBeating t (c .period) (afterSilent t (c .period) m)))
 
 -- in the frame after c, and in the verbs on c, every event appends
-pub record InOrderSent (c : Channel) : Type 0 where
+pub record AppendsAll (c : Channel) : Type 0 where
   -- a frame begins with nothing sent
   pub begins : (i : ℕ) → i < most → sentBy (cleared (place c i)) ≡ []
   -- place i, that has heard what is past, hears h
@@ -56,9 +56,9 @@ pub record InOrderSent (c : Channel) : Type 0 where
       (i : ℕ) → i < most → (past : List Heartbeat) (h : Heartbeat) (rest : List Heartbeat) → inbox c i ≡ past ++ (h ∷ rest) →
       let s = heardAll (c .frame + 1) (cleared (place c i)) past in Appends (c .frame + 1) (attentive (c .frame + 1) s) (hears s h)
   pub timers : (i : ℕ) → i < most → TimersAppend (c .frame + 1) c (heardAll (c .frame + 1) (cleared (place c i)) (inbox c i))
-  -- also of a verb that the channel refuses with 8
+  -- also of a verb that the channel refuses for another reason than the server's state
   pub verbs : (v : Verb) (a b : ℕ) → Appends (c .frame) (place c (placeOf c a)) (happens c v a b)
 
 -- after any list of calls from a fresh channel
 abbrev pub SentInOrder : Type 0
-SentInOrder = (rs : List Rank) (n : ℕ) (ks : List Call) → freshRefusal (tableOf rs) n ≡ 0 → InOrderSent (channelAfter (fresh (tableOf rs) n) ks)
+SentInOrder = (rs : List Rank) (n : ℕ) (ks : List Call) → freshRefusal (tableOf rs) n ≡ 0 → AppendsAll (channelAfter (fresh (tableOf rs) n) ks)

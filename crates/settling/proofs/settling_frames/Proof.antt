@@ -15,7 +15,7 @@ returns c =
     let a = c .before .silence-limit .ensures in
     let b = c .prospect-limit .ensures in
     let e : c .before .silence-limit .result + c .prospect-limit .result + 2 ≡ settlingTime n = omega (arith, a, b) in
-    record { number = e; settles = subst (SettlesIn n) (sym e) (settles n); ordered = sent-in-order }
+    record { figure = e; settles = subst (SettlesIn n) (sym e) (settles n); ordered = sent-in-order }
 
 pub settling-frames-spec : {M : Type 1} → statement M
 settling-frames-spec =
