@@ -1,5 +1,5 @@
-//! The same lists of calls through the model in place and through the engine, and how long each
-//! takes. Each call is lent 50,000,000 bytes.
+//! The same days through the model in place and through the engine, and how long each takes. Each
+//! step is lent 50,000,000 bytes. The engine advances within the slice, as a day does.
 
 #![allow(dead_code)]
 
@@ -30,39 +30,37 @@ const ROUNDS: usize = 5;
 
 // a slice is a pointer and a length
 extern "C" {
-    fn bench_list(
+    fn bench_day(
         servers: *const u64,
         servers_len: usize,
         period: u32,
-        calls: *const u64,
-        calls_len: usize,
+        steps: *const u64,
+        steps_len: usize,
         out: *mut u8,
         out_len: usize,
-        numbers: *mut u8,
-        numbers_len: usize,
-    ) -> u64;
+    ) -> u32;
 }
 
-/// A list as the engine takes it: a table, a period, and two numbers for each call.
+/// A day as the engine takes it: a table, a period, and a number for each step.
 #[derive(Default)]
-struct List {
+struct Day {
     servers: Vec<u64>,
     period: u32,
-    calls: Vec<u64>,
+    steps: Vec<u64>,
 }
 
-impl List {
-    fn new(calls: &[Call]) -> List {
-        let mut list = List::default();
+impl Day {
+    fn new(calls: &[Call]) -> Day {
+        let mut day = Day::default();
         for call in calls {
             let (about, kind) = match call.what {
                 What::Table => continue,
                 What::Server { identity, priority } => {
-                    list.servers.extend([u64::from(identity), u64::from(priority)]);
+                    day.servers.extend([u64::from(identity), u64::from(priority)]);
                     continue;
                 }
                 What::Fresh { period } => {
-                    list.period = period;
+                    day.period = period;
                     continue;
                 }
                 What::Act { verb, first, second } => {
@@ -70,30 +68,26 @@ impl List {
                     let about = u64::from(second) * 65_536 + u64::from(first);
                     (about, kind.expect("one of all") as u64)
                 }
-                What::Frame => (0, 8),
                 What::Time { time } => (u64::from(time), 9),
-                What::Refused { .. } => panic!("no case has the line of a refusal"),
+                What::Frame | What::Refused { .. } => panic!("no case has such a call"),
             };
-            list.calls.extend([10 * about + kind, call.len as u64]);
+            day.steps.push(10 * about + kind);
         }
-        list
+        day
     }
 
-    /// The number of a refused list × 2^32 + the frame of the last channel. Each call's number goes
-    /// to `numbers`.
-    fn run(&self, out: &mut [u8], numbers: &mut [u8]) -> u64 {
+    /// The frame that it ends in.
+    fn run(&self, out: &mut [u8]) -> u32 {
         // SAFETY: the pointers and lengths are those of slices, and the function asks for no more.
         unsafe {
-            bench_list(
+            bench_day(
                 self.servers.as_ptr(),
                 self.servers.len(),
                 self.period,
-                self.calls.as_ptr(),
-                self.calls.len(),
+                self.steps.as_ptr(),
+                self.steps.len(),
                 out.as_mut_ptr(),
                 out.len(),
-                numbers.as_mut_ptr(),
-                numbers.len(),
             )
         }
     }
@@ -108,31 +102,26 @@ struct Row {
 
 /// The best of some rounds, in which the two take turns; or what differs.
 fn time(calls: &[Call], ours: &mut [u8], theirs: &mut [u8]) -> Result<Row, String> {
-    let list = List::new(calls);
-    let count = list.calls.len() / 2;
+    let day = Day::new(calls);
+    let count = day.steps.len();
     // so that no run has to wait for its memory
     ours.fill(b'.');
     theirs.fill(b'.');
-    let mut numbers = vec![0; count];
     let mut row = Row { calls: count, bytes: 0, model: Duration::MAX, engine: Duration::MAX };
     for _ in 0..ROUNDS {
         let start = Instant::now();
         let wanted = fast::run(calls, theirs, |_, _| {});
         row.model = row.model.min(start.elapsed());
 
-        numbers.fill(u8::MAX);
         let start = Instant::now();
-        let ended = list.run(ours, &mut numbers);
+        let ended = day.run(ours);
         row.engine = row.engine.min(start.elapsed());
 
-        // those of the table come first
-        let wanted = &wanted[wanted.len() - count..];
-        if let Some(at) = numbers.iter().zip(wanted).position(|(ours, theirs)| ours != theirs) {
-            let (engine, model) = (numbers[at], wanted[at]);
-            return Err(format!("call {at}: the engine says {engine}, the model {model}"));
+        if wanted.contains(&9) {
+            return Err("a step does not fit its slice".to_string());
         }
-        if ended != u64::from(text::LAST_FRAME) {
-            return Err(format!("the engine ends with {ended}"));
+        if ended != text::LAST_FRAME {
+            return Err(format!("the engine ends in frame {ended}"));
         }
         if ours != theirs {
             return Err("the lent bytes differ".to_string());

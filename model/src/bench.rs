@@ -3,7 +3,7 @@
 use crate::calls::{Call, What, MOST_LENT};
 use crate::channel::{Role, Verb};
 use crate::fast;
-use crate::long::{some_entry, way_up};
+use crate::long::{mends, some_entry};
 use crate::script::{Rng, Script};
 use crate::text::LAST_FRAME;
 use std::time::{Duration, Instant};
@@ -55,7 +55,7 @@ fn few(last: u32) -> Vec<Call> {
     let (_, mut list) = ready(Case::B, 2, 2);
     for (turn, time) in (100_000..=last).step_by(100_000).enumerate() {
         list.advance_to(time);
-        let primary = *list.script.primaries().first().expect("somebody has been chosen");
+        let primary = *list.script.channel.primaries().first().expect("somebody has been chosen");
         let other = 1 - primary;
         let (first, then): (&[_], &[_]) = match turn % 5 {
             0 => (
@@ -106,7 +106,7 @@ fn dense(last: u32) -> Vec<Call> {
 fn calm_entry(rng: &mut Rng, script: &mut Script) {
     let place = script.some_server(rng);
     let other = script.some_other(rng, place);
-    let primaries = script.primaries();
+    let primaries = script.channel.primaries();
     if rng.chance(1, 40) {
         let verb = *rng.pick(&Verb::ALL);
         script.entry(verb, place, other);
@@ -119,26 +119,25 @@ fn calm_entry(rng: &mut Rng, script: &mut Script) {
         script.entry(verb, primary, other);
         return;
     }
-    let cuts = script.links(true);
-    if rng.below(16) < 3 * cuts.len() as u32 {
-        let &(from, to) = rng.pick(&cuts);
-        script.entry(Verb::Mend, from, to);
+    if mends(rng, script, 3, 16) {
         return;
     }
-    match script.role(place) {
-        role @ (Role::Down | Role::Idle | Role::Sync) => script.entry(way_up(role), place, other),
-        Role::Backup { .. } if rng.chance(1, 2) => {
-            script.entry(*rng.pick(&[Verb::Unready, Verb::Unready, Verb::Crash]), place, other)
+    let role = script.role(place);
+    let verb = match role.way_up() {
+        Some(verb) => verb,
+        None if matches!(role, Role::Backup { .. }) && rng.chance(1, 2) => {
+            *rng.pick(&[Verb::Unready, Verb::Unready, Verb::Crash])
         }
-        _ if !script.channel.is_cut(place, other) => script.entry(Verb::Cut, place, other),
-        _ => script.entry(Verb::Mend, place, other),
-    }
+        None if script.channel.is_cut(place, other) => Verb::Mend,
+        None => Verb::Cut,
+    };
+    script.entry(verb, place, other);
 }
 
 /// Advances of 1,000 frames.
 fn apart(last: u32) -> Vec<Call> {
     let (_, mut list) = ready(Case::D, 16, 16);
-    for (from, to) in list.script.links(false) {
+    for (from, to) in list.script.channel.links(false) {
         list.script.entry(Verb::Cut, from, to);
     }
     list.take_entries();

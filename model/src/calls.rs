@@ -304,14 +304,22 @@ fn roles(channel: &Channel) -> String {
     channel.servers.iter().map(|server| char::from(b'0' + role_digit(server.role))).collect()
 }
 
+/// The digit of each role.
+pub const DOWN: u8 = 0;
+pub const IDLE: u8 = 1;
+pub const SYNC: u8 = 2;
+pub const BACKUP: u8 = 3;
+pub const PROSPECT: u8 = 4;
+pub const PRIMARY: u8 = 5;
+
 pub fn role_digit(role: Role) -> u8 {
     match role {
-        Role::Down => 0,
-        Role::Idle => 1,
-        Role::Sync => 2,
-        Role::Backup { .. } => 3,
-        Role::Prospect { .. } => 4,
-        Role::Primary { .. } => 5,
+        Role::Down => DOWN,
+        Role::Idle => IDLE,
+        Role::Sync => SYNC,
+        Role::Backup { .. } => BACKUP,
+        Role::Prospect { .. } => PROSPECT,
+        Role::Primary { .. } => PRIMARY,
     }
 }
 

@@ -31,6 +31,18 @@ pub enum Role {
     },
 }
 
+impl Role {
+    /// The verb that brings a server that is not yet backup one step nearer to it.
+    pub fn way_up(self) -> Option<Verb> {
+        match self {
+            Role::Down => Some(Verb::Restart),
+            Role::Idle => Some(Verb::Start),
+            Role::Sync => Some(Verb::Ready),
+            Role::Backup { .. } | Role::Prospect { .. } | Role::Primary { .. } => None,
+        }
+    }
+}
+
 #[derive(Clone, Copy, Debug, PartialEq, Eq)]
 pub enum Verb {
     Start,
@@ -243,6 +255,20 @@ impl Channel {
 
     pub fn is_cut(&self, from: usize, to: usize) -> bool {
         self.cut[from][to]
+    }
+
+    /// Links from one server to another, cut or whole.
+    pub fn links(&self, cut: bool) -> Vec<(usize, usize)> {
+        let count = self.servers.len();
+        (0..count)
+            .flat_map(|from| (0..count).map(move |to| (from, to)))
+            .filter(|&(from, to)| from != to && self.is_cut(from, to) == cut)
+            .collect()
+    }
+
+    pub fn primaries(&self) -> Vec<usize> {
+        let is_primary = |&place: &usize| matches!(self.servers[place].role, Role::Primary { .. });
+        (0..self.servers.len()).filter(is_primary).collect()
     }
 
     /// "To advance: the frame number rises by 1; then, server by server in rising identity,

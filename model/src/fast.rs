@@ -5,7 +5,7 @@
 //! Servers stand in rising identity; senders are named by their rank, 0 for the highest, so that
 //! a set of senders is a 16-bit mask whose lowest bit is heard first.
 
-use crate::calls::{Call, What};
+use crate::calls::{Call, What, BACKUP, DOWN, IDLE, PRIMARY, PROSPECT, SYNC};
 use crate::channel::Verb;
 use std::io::{self, Write};
 
@@ -13,14 +13,7 @@ const MOST: usize = 16;
 const NEVER: u32 = u32::MAX;
 const LAST: u32 = 2_159_999;
 
-const DOWN: u8 = 0;
-const IDLE: u8 = 1;
-const SYNC: u8 = 2;
-const BACKUP: u8 = 3;
-const PROSPECT: u8 = 4;
-const PRIMARY: u8 = 5;
-
-/// Words of the sheet; the first six are the roles.
+/// Words of the sheet; the first six are the roles, by their digits.
 #[rustfmt::skip]
 const WORDS: [&[u8]; 12] = [
     b"down", b"idle", b"sync", b"backup", b"prospect", b"primary", b"beat", b"reveal", b"pass",

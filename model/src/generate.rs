@@ -14,20 +14,20 @@ pub fn day(seed: u64) -> Vec<u8> {
     }
     let rng = &mut rng;
     let script = match rng.below(18) {
-        0 | 1 => churn(rng),
-        2 | 3 => soup(rng),
-        4 => one_way_cuts(rng),
-        5 => partition(rng),
-        6 => many_passes(rng),
-        7 => crossing_passes(rng),
+        0 | 1 => played(rng, 1, 8, churn),
+        2 | 3 => played(rng, 1, 7, soup),
+        4 => played(rng, 2, 6, one_way_cuts),
+        5 => played(rng, 2, 5, partition),
+        6 => played(rng, 3, 5, many_passes),
+        7 => played(rng, 2, 4, crossing_passes),
         8 => chain_of_passes(rng),
-        9 => lost_pass(rng),
-        10 | 11 => crash_on_beat(rng),
-        12 => unready_and_restart(rng),
+        9 => played(rng, 2, 6, lost_pass),
+        10 | 11 => played(rng, 1, 6, crash_on_beat),
+        12 => played(rng, 1, 6, unready_and_restart),
         13 => refused_end(rng),
-        14 => staggered(rng),
-        15 => crowd(rng),
-        16 => alone(rng),
+        14 => played(rng, 2, 8, staggered),
+        15 => played(rng, 12, 16, crowd),
+        16 => played(rng, 1, 1, alone),
         _ => late(rng),
     };
     if rng.chance(2, 5) {
@@ -149,9 +149,19 @@ fn finish(rng: &mut Rng, script: &mut Script) {
     script.end();
 }
 
+/// A primary, but once in `whole`, or if there is none, any server.
+fn some_primary(rng: &mut Rng, script: &Script, whole: u32) -> usize {
+    let primaries = script.channel.primaries();
+    if primaries.is_empty() || rng.chance(1, whole) {
+        script.some_server(rng)
+    } else {
+        *rng.pick(&primaries)
+    }
+}
+
 /// A verb that the state allows, if the server drawn has one.
 fn allowed_entry(rng: &mut Rng, script: &mut Script) {
-    let primaries = script.primaries();
+    let primaries = script.channel.primaries();
     let place = if !primaries.is_empty() && rng.chance(1, 3) {
         *rng.pick(&primaries)
     } else {
@@ -194,57 +204,53 @@ fn any_entry(rng: &mut Rng, script: &mut Script) {
     }
 }
 
-// Kinds of days
-
-fn churn(rng: &mut Rng) -> Script {
-    let mut script = group(rng, 1, 8);
-    make_ready(rng, &mut script);
-    for _ in 0..rng.between(4, 24) {
-        wait_a_while(rng, &mut script);
-        allowed_entry(rng, &mut script);
-    }
+/// A day of some kind, with `least` to `most` servers.
+fn played(rng: &mut Rng, least: u32, most: u32, kind: fn(&mut Rng, &mut Script)) -> Script {
+    let mut script = group(rng, least, most);
+    kind(rng, &mut script);
     finish(rng, &mut script);
     script
+}
+
+// Kinds of days
+
+fn churn(rng: &mut Rng, script: &mut Script) {
+    make_ready(rng, script);
+    for _ in 0..rng.between(4, 24) {
+        wait_a_while(rng, script);
+        allowed_entry(rng, script);
+    }
 }
 
 /// Verbs drawn without regard to roles.
-fn soup(rng: &mut Rng) -> Script {
-    let mut script = group(rng, 1, 7);
+fn soup(rng: &mut Rng, script: &mut Script) {
     if rng.chance(3, 4) {
-        make_ready(rng, &mut script);
+        make_ready(rng, script);
     }
     for _ in 0..rng.between(10, 35) {
         if rng.chance(1, 2) {
-            wait_a_while(rng, &mut script);
+            wait_a_while(rng, script);
         }
-        any_entry(rng, &mut script);
+        any_entry(rng, script);
     }
-    finish(rng, &mut script);
-    script
 }
 
 /// Cuts in one direction and mends, some of them in the frame of a beat.
-fn one_way_cuts(rng: &mut Rng) -> Script {
-    let mut script = group(rng, 2, 6);
-    make_ready(rng, &mut script);
-    settle(rng, &mut script);
+fn one_way_cuts(rng: &mut Rng, script: &mut Script) {
+    make_ready(rng, script);
+    settle(rng, script);
     for _ in 0..rng.between(4, 16) {
         match rng.below(4) {
             0 => script.wait_for_sending(2 * script.period()),
             1 => {}
-            _ => wait_a_while(rng, &mut script),
+            _ => wait_a_while(rng, script),
         }
-        let cuts = script.links(true);
+        let cuts = script.channel.links(true);
         if !cuts.is_empty() && rng.chance(1, 2) {
             let &(from, to) = rng.pick(&cuts);
             script.entry(Verb::Mend, from, to);
         } else {
-            let primaries = script.primaries();
-            let from = if primaries.is_empty() || rng.chance(1, 3) {
-                script.some_server(rng)
-            } else {
-                *rng.pick(&primaries)
-            };
+            let from = some_primary(rng, script, 3);
             let to = script.some_other(rng, from);
             script.entry(Verb::Cut, from, to);
             if rng.chance(1, 6) {
@@ -252,30 +258,25 @@ fn one_way_cuts(rng: &mut Rng) -> Script {
             }
         }
     }
-    finish(rng, &mut script);
-    script
 }
 
 /// Two parts that cannot hear each other, or in one direction only; then they heal.
-fn partition(rng: &mut Rng) -> Script {
-    let mut script = group(rng, 2, 5);
+fn partition(rng: &mut Rng, script: &mut Script) {
     if rng.chance(1, 2) {
-        make_ready(rng, &mut script);
-        settle(rng, &mut script);
-        part(rng, &mut script);
+        make_ready(rng, script);
+        settle(rng, script);
+        part(rng, script);
     } else {
-        part(rng, &mut script);
-        make_ready(rng, &mut script);
+        part(rng, script);
+        make_ready(rng, script);
     }
-    settle(rng, &mut script);
-    wait_a_while(rng, &mut script);
+    settle(rng, script);
+    wait_a_while(rng, script);
     if rng.chance(1, 3) {
-        allowed_entry(rng, &mut script);
+        allowed_entry(rng, script);
     }
-    heal(rng, &mut script);
-    settle(rng, &mut script);
-    finish(rng, &mut script);
-    script
+    heal(rng, script);
+    settle(rng, script);
 }
 
 fn part(rng: &mut Rng, script: &mut Script) {
@@ -283,7 +284,7 @@ fn part(rng: &mut Rng, script: &mut Script) {
     let side = rng.between(1, (1 << count) - 2);
     let is_left = |place: usize| side >> place & 1 == 1;
     let both = rng.chance(3, 4);
-    let mut links = script.links(false);
+    let mut links = script.channel.links(false);
     rng.shuffle(&mut links);
     for (from, to) in links {
         if is_left(from) != is_left(to) && (both || is_left(from)) {
@@ -294,7 +295,7 @@ fn part(rng: &mut Rng, script: &mut Script) {
 
 fn heal(rng: &mut Rng, script: &mut Script) {
     let slowly = rng.chance(1, 4);
-    let mut links = script.links(true);
+    let mut links = script.channel.links(true);
     rng.shuffle(&mut links);
     for (from, to) in links {
         if slowly && rng.chance(1, 3) {
@@ -308,9 +309,8 @@ fn heal(rng: &mut Rng, script: &mut Script) {
 }
 
 /// Everybody alone and primary; then several pass to one server in one frame.
-fn many_passes(rng: &mut Rng) -> Script {
-    let mut script = group(rng, 3, 5);
-    for (from, to) in script.links(false) {
+fn many_passes(rng: &mut Rng, script: &mut Script) {
+    for (from, to) in script.channel.links(false) {
         script.entry(Verb::Cut, from, to);
     }
     for place in 0..script.count() {
@@ -347,30 +347,28 @@ fn many_passes(rng: &mut Rng) -> Script {
             script.entry(Verb::Pass, place, target);
         }
     }
-    wait_a_while(rng, &mut script);
+    wait_a_while(rng, script);
     if rng.chance(1, 2) {
-        heal(rng, &mut script);
+        heal(rng, script);
     }
-    finish(rng, &mut script);
-    script
 }
 
 /// Two primaries pass to each other.
-fn crossing_passes(rng: &mut Rng) -> Script {
-    let mut script = group(rng, 2, 4);
+fn crossing_passes(rng: &mut Rng, script: &mut Script) {
     let first = script.some_server(rng);
     let second = script.some_other(rng, first);
-    for (from, to) in script.links(false) {
+    for (from, to) in script.channel.links(false) {
         if from == first || to == first {
             script.entry(Verb::Cut, from, to);
         }
     }
-    make_ready(rng, &mut script);
-    settle(rng, &mut script);
-    let other = script.primaries().into_iter().find(|&place| place != first).unwrap_or(second);
+    make_ready(rng, script);
+    settle(rng, script);
+    let other =
+        script.channel.primaries().into_iter().find(|&place| place != first).unwrap_or(second);
     let early = rng.chance(1, 2);
     if early {
-        heal(rng, &mut script);
+        heal(rng, script);
     }
     script.entry(Verb::Pass, first, other);
     if rng.chance(1, 4) {
@@ -378,11 +376,9 @@ fn crossing_passes(rng: &mut Rng) -> Script {
     }
     script.entry(Verb::Pass, other, first);
     if !early {
-        heal(rng, &mut script);
+        heal(rng, script);
     }
-    settle(rng, &mut script);
-    finish(rng, &mut script);
-    script
+    settle(rng, script);
 }
 
 /// Passes as soon as the next server is primary, several in one second.
@@ -396,12 +392,7 @@ fn chain_of_passes(rng: &mut Rng) -> Script {
     make_ready(rng, &mut script);
     settle(rng, &mut script);
     for _ in 0..rng.between(3, 9) {
-        let primaries = script.primaries();
-        let from = if primaries.is_empty() || rng.chance(1, 8) {
-            script.some_server(rng)
-        } else {
-            *rng.pick(&primaries)
-        };
+        let from = some_primary(rng, &script, 8);
         let to = script.some_other(rng, from);
         script.entry(Verb::Pass, from, to);
         if rng.chance(1, 6) {
@@ -415,14 +406,13 @@ fn chain_of_passes(rng: &mut Rng) -> Script {
 }
 
 /// A pass to a server that is down, not ready, or does not hear it.
-fn lost_pass(rng: &mut Rng) -> Script {
-    let mut script = group(rng, 2, 6);
-    make_ready(rng, &mut script);
-    settle(rng, &mut script);
+fn lost_pass(rng: &mut Rng, script: &mut Script) {
+    make_ready(rng, script);
+    settle(rng, script);
     for _ in 0..rng.between(1, 3) {
-        let primaries = script.primaries();
+        let primaries = script.channel.primaries();
         let Some(&from) = primaries.first() else {
-            settle(rng, &mut script);
+            settle(rng, script);
             continue;
         };
         let to = script.some_other(rng, from);
@@ -444,18 +434,15 @@ fn lost_pass(rng: &mut Rng) -> Script {
             script.wait(frames);
             script.revive(to);
         }
-        settle(rng, &mut script);
+        settle(rng, script);
     }
-    finish(rng, &mut script);
-    script
 }
 
 /// A crash in the frame of a beat, and in the frames beside it.
-fn crash_on_beat(rng: &mut Rng) -> Script {
-    let mut script = group(rng, 1, 6);
-    make_ready(rng, &mut script);
+fn crash_on_beat(rng: &mut Rng, script: &mut Script) {
+    make_ready(rng, script);
     if rng.chance(1, 2) {
-        settle(rng, &mut script);
+        settle(rng, script);
     }
     for _ in 0..rng.between(1, 4) {
         script.wait_for_sending(4 * script.period());
@@ -471,22 +458,19 @@ fn crash_on_beat(rng: &mut Rng) -> Script {
         if rng.chance(1, 2) {
             script.revive(place);
         } else if rng.chance(1, 2) {
-            wait_a_while(rng, &mut script);
+            wait_a_while(rng, script);
             script.revive(place);
         }
         if rng.chance(1, 2) {
-            settle(rng, &mut script);
+            settle(rng, script);
         }
     }
-    finish(rng, &mut script);
-    script
 }
 
-fn unready_and_restart(rng: &mut Rng) -> Script {
-    let mut script = group(rng, 1, 6);
-    make_ready(rng, &mut script);
+fn unready_and_restart(rng: &mut Rng, script: &mut Script) {
+    make_ready(rng, script);
     for _ in 0..rng.between(3, 12) {
-        wait_a_while(rng, &mut script);
+        wait_a_while(rng, script);
         let place = script.some_server(rng);
         match rng.below(6) {
             0 | 1 => script.entry(Verb::Unready, place, place),
@@ -502,8 +486,6 @@ fn unready_and_restart(rng: &mut Rng) -> Script {
             _ => script.revive(place),
         }
     }
-    finish(rng, &mut script);
-    script
 }
 
 /// An `end` that goes back, and what may come after it.
@@ -532,8 +514,7 @@ fn refused_end(rng: &mut Rng) -> Script {
 }
 
 /// Ready in frames so near each other that silences run out side by side.
-fn staggered(rng: &mut Rng) -> Script {
-    let mut script = group(rng, 2, 8);
+fn staggered(rng: &mut Rng, script: &mut Script) {
     let mut places: Vec<usize> = (0..script.count()).collect();
     rng.shuffle(&mut places);
     for &place in &places {
@@ -545,35 +526,29 @@ fn staggered(rng: &mut Rng) -> Script {
         script.entry(Verb::Ready, place, place);
     }
     if rng.chance(1, 2) {
-        settle(rng, &mut script);
-        for place in script.primaries() {
+        settle(rng, script);
+        for place in script.channel.primaries() {
             script.entry(Verb::Crash, place, place);
         }
     }
-    settle(rng, &mut script);
-    finish(rng, &mut script);
-    script
+    settle(rng, script);
 }
 
 /// Many servers.
-fn crowd(rng: &mut Rng) -> Script {
-    let mut script = group(rng, 12, 16);
-    make_ready(rng, &mut script);
-    settle(rng, &mut script);
+fn crowd(rng: &mut Rng, script: &mut Script) {
+    make_ready(rng, script);
+    settle(rng, script);
     for _ in 0..rng.below(8) {
-        allowed_entry(rng, &mut script);
-        wait_a_while(rng, &mut script);
+        allowed_entry(rng, script);
+        wait_a_while(rng, script);
     }
-    finish(rng, &mut script);
-    script
 }
 
 /// One server.
-fn alone(rng: &mut Rng) -> Script {
-    let mut script = group(rng, 1, 1);
-    make_ready(rng, &mut script);
+fn alone(rng: &mut Rng, script: &mut Script) {
+    make_ready(rng, script);
     for _ in 0..rng.below(10) {
-        wait_a_while(rng, &mut script);
+        wait_a_while(rng, script);
         let verb =
             *rng.pick(&[Verb::Crash, Verb::Restart, Verb::Unready, Verb::Ready, Verb::Start]);
         script.entry(verb, 0, 0);
@@ -581,8 +556,6 @@ fn alone(rng: &mut Rng) -> Script {
             script.revive(0);
         }
     }
-    finish(rng, &mut script);
-    script
 }
 
 /// Days that begin late, or go to the last frame.
@@ -653,7 +626,7 @@ fn full_day(rng: &mut Rng, turn: u64) -> Vec<u8> {
             script.wait(frames);
         }
         let cut = rng.chance(1, 2);
-        let links = script.links(cut);
+        let links = script.channel.links(cut);
         if rng.chance(1, 20) || links.is_empty() {
             let place = script.some_server(rng);
             let verb = *rng.pick(&Verb::ALL[..3]);

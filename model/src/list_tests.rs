@@ -51,6 +51,13 @@ const READY_ANSWERS: &str = "0 1
     00:00:00:00 2 backup
     ";
 
+/// What frame 4 of D1 writes.
+const REVEALS: &str = "00:00:00:04 1 prospect
+    00:00:00:04 1 reveal
+    00:00:00:04 2 prospect
+    00:00:00:04 2 reveal
+    ";
+
 #[test]
 fn d1_as_a_list() {
     expect(
@@ -65,11 +72,7 @@ fn d1_as_a_list() {
         ),
         &format!(
             "{READY_ANSWERS}0 88 912 4 44
-            00:00:00:04 1 prospect
-            00:00:00:04 1 reveal
-            00:00:00:04 2 prospect
-            00:00:00:04 2 reveal
-            9 0 20 4 44
+            {REVEALS}9 0 20 4 44
             0 21 0 5 34
             00:00:00:05 1 backup
             0 60 1 8 35
@@ -99,11 +102,7 @@ fn d4_as_a_list() {
         &format!(
             "{READY_ANSWERS}9 0 148 0 33
             0 169 0 8 35
-            00:00:00:04 1 prospect
-            00:00:00:04 1 reveal
-            00:00:00:04 2 prospect
-            00:00:00:04 2 reveal
-            00:00:00:05 1 backup
+            {REVEALS}00:00:00:05 1 backup
             00:00:00:06 2 beat
             00:00:00:08 2 beat
             00:00:00:08 2 primary

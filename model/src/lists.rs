@@ -1,6 +1,7 @@
 //! Short lists of calls of many kinds, each from a seed.
 
 use crate::calls::{outcome, role_digit, Answer, Call, Outcome, Plain, What};
+use crate::calls::{BACKUP, DOWN, IDLE, PRIMARY, PROSPECT, SYNC};
 use crate::channel::{Channel, Note, Verb, MOST_PERIOD, MOST_SERVERS};
 use crate::generate::pause;
 use crate::script::Rng;
@@ -15,13 +16,6 @@ pub const MOST_LENT: usize = 60_000;
 
 /// The numbers that a call can be refused with.
 pub const REFUSALS: [u8; 15] = [1, 2, 3, 4, 5, 6, 7, 8, 9, 11, 12, 13, 14, 15, 16];
-
-const DOWN: u8 = 0;
-const IDLE: u8 = 1;
-const SYNC: u8 = 2;
-const BACKUP: u8 = 3;
-const PROSPECT: u8 = 4;
-const PRIMARY: u8 = 5;
 
 #[rustfmt::skip]
 const KINDS: [fn(&mut Maker); 20] = [
@@ -97,17 +91,9 @@ impl Maker {
         role_digit(self.channel().servers[place].role)
     }
 
-    fn primaries(&self) -> Vec<usize> {
-        (0..self.count()).filter(|&place| self.role(place) == PRIMARY).collect()
-    }
-
     /// Links from one server to another, cut or whole, in any order.
     fn links(&mut self, cut: bool) -> Vec<(usize, usize)> {
-        let count = self.count();
-        let mut links: Vec<(usize, usize)> = (0..count)
-            .flat_map(|from| (0..count).map(move |to| (from, to)))
-            .filter(|&(from, to)| from != to && self.channel().is_cut(from, to) == cut)
-            .collect();
+        let mut links = self.channel().links(cut);
         self.rng.shuffle(&mut links);
         links
     }
@@ -122,14 +108,11 @@ impl Maker {
     /// A server other than `place`, if there is one.
     fn some_other(&mut self, place: usize) -> usize {
         let count = self.count();
-        if count == 1 {
-            return place;
-        }
-        (place + 1 + self.rng.below(count as u32 - 1) as usize) % count
+        self.rng.other(count, place)
     }
 
     fn some_primary(&mut self) -> usize {
-        let primaries = self.primaries();
+        let primaries = self.channel().primaries();
         if primaries.is_empty() {
             return self.some_server();
         }
@@ -354,8 +337,8 @@ impl Maker {
 
     /// Down, idle and sync servers become backup.
     fn revive(&mut self, place: usize) {
-        for (role, verb) in [(DOWN, Verb::Restart), (IDLE, Verb::Start), (SYNC, Verb::Ready)] {
-            if self.role(place) == role {
+        for _ in DOWN..BACKUP {
+            if let Some(verb) = self.channel().servers[place].role.way_up() {
                 self.act(verb, place, place);
             }
         }
@@ -653,7 +636,7 @@ fn passes(maker: &mut Maker) {
         }
         let frames = 2 * maker.period() + maker.rng.below(3);
         maker.wait(frames);
-        if maker.primaries().is_empty() {
+        if maker.channel().primaries().is_empty() {
             maker.revive(to);
             maker.settle();
         }

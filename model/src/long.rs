@@ -43,21 +43,17 @@ pub fn some_entry(rng: &mut Rng, script: &mut Script) {
             return;
         }
     }
-    let is_out =
-        |&place: &usize| matches!(script.role(place), Role::Down | Role::Idle | Role::Sync);
-    if let Some(place) = (0..script.count()).find(is_out) {
+    let way_up = |place: usize| script.role(place).way_up().map(|verb| (verb, place));
+    if let Some((verb, place)) = (0..script.count()).find_map(way_up) {
         if rng.chance(3, 5) {
-            script.entry(way_up(script.role(place)), place, place);
+            script.entry(verb, place, place);
             return;
         }
     }
-    let cuts = script.links(true);
-    if rng.below(8) < 2 * cuts.len() as u32 {
-        let &(from, to) = rng.pick(&cuts);
-        script.entry(Verb::Mend, from, to);
+    if mends(rng, script, 2, 8) {
         return;
     }
-    let primaries = script.primaries();
+    let primaries = script.channel.primaries();
     let choice = rng.below(10);
     if choice < 5 && has_other && !primaries.is_empty() {
         let from = *rng.pick(&primaries);
@@ -66,20 +62,23 @@ pub fn some_entry(rng: &mut Rng, script: &mut Script) {
     } else if choice < 7 && has_other && !script.channel.is_cut(place, other) {
         script.entry(Verb::Cut, place, other);
     } else {
-        let verb = match script.role(place) {
-            Role::Backup { .. } if rng.chance(1, 3) => Verb::Unready,
-            Role::Backup { .. } | Role::Prospect { .. } | Role::Primary { .. } => Verb::Crash,
-            role => way_up(role),
+        let role = script.role(place);
+        let verb = match role.way_up() {
+            Some(verb) => verb,
+            None if matches!(role, Role::Backup { .. }) && rng.chance(1, 3) => Verb::Unready,
+            None => Verb::Crash,
         };
         script.entry(verb, place, place);
     }
 }
 
-/// The verb that brings a server one step nearer to backup.
-pub fn way_up(role: Role) -> Verb {
-    match role {
-        Role::Down => Verb::Restart,
-        Role::Idle => Verb::Start,
-        _ => Verb::Ready,
+/// Mends some link, `part` times in `whole` for each that is cut. False if it does not.
+pub fn mends(rng: &mut Rng, script: &mut Script, part: u32, whole: u32) -> bool {
+    let cuts = script.channel.links(true);
+    let mends = rng.below(whole) < part * cuts.len() as u32;
+    if mends {
+        let &(from, to) = rng.pick(&cuts);
+        script.entry(Verb::Mend, from, to);
     }
+    mends
 }

@@ -28,6 +28,14 @@ impl Rng {
         least + self.below(most - least + 1)
     }
 
+    /// 0 to `count` − 1 but for `not`, if there is another.
+    pub fn other(&mut self, count: usize, not: usize) -> usize {
+        if count == 1 {
+            return not;
+        }
+        (not + 1 + self.below(count as u32 - 1) as usize) % count
+    }
+
     /// True `part` times in `whole`.
     pub fn chance(&mut self, part: u32, whole: u32) -> bool {
         self.below(whole) < part
@@ -129,23 +137,9 @@ impl Script {
 
     /// Down, idle and sync servers become backup.
     pub fn revive(&mut self, place: usize) {
-        if self.role(place) == Role::Down {
-            self.entry(Verb::Restart, place, place);
+        while let Some(verb) = self.role(place).way_up() {
+            self.entry(verb, place, place);
         }
-        if self.role(place) == Role::Idle {
-            self.entry(Verb::Start, place, place);
-        }
-        if self.role(place) == Role::Sync {
-            self.entry(Verb::Ready, place, place);
-        }
-    }
-
-    pub fn primaries(&self) -> Vec<usize> {
-        (0..self.count()).filter(|&place| self.is_primary(place)).collect()
-    }
-
-    pub fn is_primary(&self, place: usize) -> bool {
-        matches!(self.role(place), Role::Primary { .. })
     }
 
     pub fn some_server(&self, rng: &mut Rng) -> usize {
@@ -154,20 +148,7 @@ impl Script {
 
     /// A server other than `place`, if there is one.
     pub fn some_other(&self, rng: &mut Rng, place: usize) -> usize {
-        let count = self.count();
-        if count == 1 {
-            return place;
-        }
-        (place + 1 + rng.below(count as u32 - 1) as usize) % count
-    }
-
-    /// Links from one server to another, cut or whole.
-    pub fn links(&self, cut: bool) -> Vec<(usize, usize)> {
-        let count = self.count();
-        (0..count)
-            .flat_map(|from| (0..count).map(move |to| (from, to)))
-            .filter(|&(from, to)| from != to && self.channel.is_cut(from, to) == cut)
-            .collect()
+        rng.other(self.count(), place)
     }
 
     /// The lines, each with its line feed.

@@ -57,6 +57,13 @@ fn expect_bytes(input: &[u8], line: &str) {
     assert_eq!(sheet.lines().last(), Some(line), "{sheet}");
 }
 
+/// The sheet of each of these ends at some line with some refusal.
+fn expect_refusals(inputs: &[(&str, u32, u32)]) {
+    for (input, line, refusal) in inputs {
+        expect_bytes(input.as_bytes(), &format!("line {line} refused-{refusal}"));
+    }
+}
+
 const GROUP: &str = "period 2\nserver 1 10\nserver 2 20\n";
 const READY: &str = "@0 start 1\n@0 ready 1\n@0 start 2\n@0 ready 2\n";
 const READY_SHEET: &str = "@0 1 sync\n@0 1 backup\n@0 2 sync\n@0 2 backup\n";
@@ -261,18 +268,20 @@ fn reading_1_the_word_of_a_line() {
 
 #[test]
 fn reading_2_every_tab_parts_two_fields() {
-    expect_bytes(b"period\t\n", "line 1 refused-2");
-    expect_bytes(b"period\t5\t\n", "line 1 refused-1");
-    expect_bytes(b"\n", "line 1 refused-1");
-    expect_bytes(b"\t\n", "line 1 refused-1");
-    expect_bytes(b"\tperiod\t5\n", "line 1 refused-1");
-    expect_bytes(b"period\t\t5\n", "line 1 refused-1");
-    expect_bytes(b"period\t5\nserver\t\t1\n", "line 2 refused-2");
-    expect_bytes(b"period\t5\nserver\t1\t\n", "line 2 refused-2");
-    expect_bytes(b"period\t5\nserver\t1\t1\n00:00:00:00\tstart\t\n", "line 3 refused-2");
-    expect_bytes(b"period\t5\nserver\t1\t1\n00:00:00:00\tstart\t1\t\n", "line 3 refused-1");
-    expect_bytes(b"period\t5\nserver\t1\t1\n\tstart\t1\n", "line 3 refused-3");
-    expect_bytes(b"period\t5\nserver\t1\t1\nend\t\n", "line 3 refused-3");
+    expect_refusals(&[
+        ("period\t\n", 1, 2),
+        ("period\t5\t\n", 1, 1),
+        ("\n", 1, 1),
+        ("\t\n", 1, 1),
+        ("\tperiod\t5\n", 1, 1),
+        ("period\t\t5\n", 1, 1),
+        ("period\t5\nserver\t\t1\n", 2, 2),
+        ("period\t5\nserver\t1\t\n", 2, 2),
+        ("period\t5\nserver\t1\t1\n00:00:00:00\tstart\t\n", 3, 2),
+        ("period\t5\nserver\t1\t1\n00:00:00:00\tstart\t1\t\n", 3, 1),
+        ("period\t5\nserver\t1\t1\n\tstart\t1\n", 3, 3),
+        ("period\t5\nserver\t1\t1\nend\t\n", 3, 3),
+    ]);
 }
 
 #[test]
@@ -352,13 +361,15 @@ fn reading_4_where_entries_begin() {
 
 #[test]
 fn reading_5_the_last_line_feed() {
-    expect_bytes(b"period\t2\nserver\t1\t1\nend\t00:00:00:00", "line 3 refused-1");
-    expect_bytes(b"period", "line 1 refused-1");
-    expect_bytes(b"period\t2\nserver\t1\t1\nend\t24:00:00:00", "line 3 refused-1");
-    expect_bytes(b"period\t2\nserver\t1\t1\nend\t00:00:00:00\nx", "line 4 refused-1");
-    expect_bytes(b"period\t2\n", "line 2 refused-4");
-    expect_bytes(b"period\t2\nserver\t1\t1\n", "line 3 refused-4");
-    expect_bytes(b"period\t2\nserver\t1\t1\n00:00:00:01\tready\t1\n", "line 4 refused-4");
+    expect_refusals(&[
+        ("period\t2\nserver\t1\t1\nend\t00:00:00:00", 3, 1),
+        ("period", 1, 1),
+        ("period\t2\nserver\t1\t1\nend\t24:00:00:00", 3, 1),
+        ("period\t2\nserver\t1\t1\nend\t00:00:00:00\nx", 4, 1),
+        ("period\t2\n", 2, 4),
+        ("period\t2\nserver\t1\t1\n", 3, 4),
+        ("period\t2\nserver\t1\t1\n00:00:00:01\tready\t1\n", 4, 4),
+    ]);
 }
 
 #[test]
@@ -477,11 +488,13 @@ fn reading_20_the_end_of_a_frame() {
 
 #[test]
 fn reading_21_carriage_returns_and_timecode_digits() {
-    expect_bytes(b"period\t2\r\n", "line 1 refused-2");
-    expect_bytes(b"period\r\t2\n", "line 1 refused-1");
-    expect_bytes(b"period\t2\nserver\t1\t1\r\n", "line 2 refused-2");
-    expect_bytes(b"period\t2\nserver\t1\t1\nend\t00:00:00:00\r\n", "line 3 refused-3");
-    expect_bytes(b"\r\n", "line 1 refused-1");
+    expect_refusals(&[
+        ("period\t2\r\n", 1, 2),
+        ("period\r\t2\n", 1, 1),
+        ("period\t2\nserver\t1\t1\r\n", 2, 2),
+        ("period\t2\nserver\t1\t1\nend\t00:00:00:00\r\n", 3, 3),
+        ("\r\n", 1, 1),
+    ]);
     assert_eq!(read_timecode(b"00:00:00:09"), Ok(9));
     assert_eq!(read_timecode(b"0:0:0:9"), Err(3));
 }

@@ -1,1 +1,2 @@
-pub mod Listing
+mod Listing
+mod Running

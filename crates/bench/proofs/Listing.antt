@@ -1,16 +1,13 @@
 -- Servers one after the other. Assumes nothing.
-use mathlib.Core.Path.{_≡_, refl, sym, ap, subst, _∙_}
+use mathlib.Core.Path.{_≡_, refl, sym, ap, _∙_}
 use mathlib.Core.List.{List, [], _∷_}
-use Prim.Native.Nat.{ℕ, suc, _+_, _*_, _/_, _%_, _≤_, _<_}
+use Prim.Native.Nat.{ℕ, suc, _+_, _/_, _%_, _≤_, _<_}
 use native.Mathlib.Omega.{arith}
 use lib.ListN.{length, drop, getD, length-drop}
 use lib.Seq.{drop-cons}
-use Rattle.channel.specs.declared.Table.{Table}
-use Rattle.channel.specs.Table.{empty, added}
-use Rattle.refusal.specs.Answer.{ofVerdict}
-use Rattle.calls.specs.declared.Ended.{Ended}
-use Rattle.calls.specs.Running.{RunsList}
-use Rattle.bench.specs.Bench.{tableFrom, tableOf, Ends}
+use Rattle.group.specs.declared.Table.{Table}
+use Rattle.group.specs.Table.{empty, added}
+use Rattle.bench.specs.Bench.{tableFrom, tableOf}
 
 few : (t : Table) (l : List ℕ) → length l < 2 → tableFrom t l ≡ t
 unfolding tableFrom
@@ -50,9 +47,3 @@ module _ {l : List ℕ} where
 
   pub list-end : {t : Table} {i k : ℕ} → Listing l t i k → length l / 2 ≤ k → t ≡ tableOf l
   list-end {t} {i} {k} v h = let even = v .even in sym (few t (drop i l) (omega (arith, length-drop i l))) ∙ v .table
-
-pub ends :
-    {t : Table} {servers ks d e d′ e′ : List ℕ} {n r : ℕ} {ended : Ended} → t ≡ tableOf servers → RunsList t n ks d e ended d′ e′ →
-    r ≡ 4294967296 * ofVerdict (ended .verdict) + ended .channel .frame → Ends servers n ks d e r d′ e′
-ends {t} {servers} {ks} {d} {e} {d′} {e′} {n} {r} {ended} a b c =
-    record { ended = ended; runs = subst (λ (x : Table). RunsList x n ks d e ended d′ e′) a b; result = c }

@@ -1,11 +1,8 @@
-// A list of calls for the benchmark, exported for Rust to link.
-use calls::Ended;
-use channel::Table;
-use refusal::Verdict;
+// A day for the benchmark, exported for Rust to link.
+use channel::Channel;
+use group::Table;
 ghost use mathlib.Core.Path.{_≡_};
-ghost use Prim.Native.Nat.{_+_, _*_};
-ghost use Rattle.refusal.specs.Answer.{ofVerdict};
-ghost use Rattle.bench.specs.Bench.{tableOf, Ends};
+ghost use Rattle.bench.specs.Bench.{tableOf, OneStep, DayRuns, DayEnds};
 
 // The table of the servers, an identity and a priority each; those that are refused are left out.
 fn table_of(servers: &[u64]) -> Table
@@ -26,36 +23,45 @@ fn table_of(servers: &[u64]) -> Table
     table
 }
 
-fn number(verdict: Verdict) -> u8
-    ensures { λ r. ⌜ r ≡ ofVerdict verdict ⌝ }
+// A verb, or the advance towards a time, by its number; it is lent the whole slice.
+fn one(channel: Channel, n: u64, out: &mut [u8]) -> Channel
+    ensures { λ r. ⌜ OneStep (channel .state) n (now (out .entry)) (r .state) (now (out .exit)) ⌝ }
 {
-    match verdict {
-        Verdict::Accepted => 0,
-        Verdict::Refused(k) => k.number(),
+    let kind = n % 10;
+    let about = n / 10;
+    if kind < 8 {
+        let first = (about % 65536) as u16;
+        let second = (about / 65536 % 65536) as u16;
+        let answer = channel.verb(calls::verb_at(kind), first, second, out);
+        answer.channel
+    } else {
+        let within = channel.advance_within((about % 4294967296) as u32, out);
+        within.channel
     }
 }
 
-// The number of the refusal, and the frame of the last channel.
-fn ending(ended: Ended) -> u64
-    ensures { λ r. ⌜ r ≡ 4294967296 * ofVerdict (ended .verdict) + ended .channel .frame ⌝ }
+// One after the other.
+fn day(channel: Channel, steps: &[u64], out: &mut [u8]) -> Channel
+    ensures { λ r. ⌜ DayRuns (channel .state) (now (steps .entry)) (now (out .entry)) (r .state) (now (out .exit)) ⌝ }
 {
-    let verdict = ended.verdict;
-    let channel = ended.channel;
-    4294967296 * (number(verdict) as u64) + (channel.frame as u64)
+    let mut now = channel;
+    let mut i: usize = 0;
+    while i < steps.len() {
+        let next = one(now, steps[i], out);
+        now = next;
+        i += 1;
+    }
+    now
 }
 
-// Runs the list of calls on the fresh channel of the servers.
+// The day on the fresh channel of the servers: the frame that it ends in.
 #[no_mangle]
-pub extern "C" fn bench_list(
-    servers: &[u64],
-    period: u32,
-    calls: &[u64],
-    out: &mut [u8],
-    numbers: &mut [u8],
-) -> u64
-    ensures { λ r. ⌜ Ends (now (servers .entry)) period (now (calls .entry)) (now (out .entry)) (now (numbers .entry)) r (now (out .exit)) (now (numbers .exit)) ⌝ }
+pub extern "C" fn bench_day(servers: &[u64], period: u32, steps: &[u64], out: &mut [u8]) -> u32
+    ensures { λ r. ⌜ DayEnds (now (servers .entry)) period (now (steps .entry)) (now (out .entry)) r (now (out .exit)) ⌝ }
 {
     let table = table_of(servers);
-    let ended = calls::run_list(table, period, calls, out, numbers);
-    ending(ended)
+    let opened = Channel::fresh(table, period);
+    let channel = opened.channel;
+    let ended = day(channel, steps, out);
+    ended.state.frame
 }

@@ -11,13 +11,13 @@ use lib.ListN.{length, take, drop, replicate, length-replicate, drop-of-length-l
 use lib.Seq.{length-take-le, take-all}
 use Rattle.lists.specs.Choice.{choose}
 use Rattle.lists.proofs.Cases.{tested, less, chosen, other}
-use Rattle.channel.specs.declared.Channel.{Channel}
+use Rattle.group.specs.declared.State.{State}
 use Rattle.channel.specs.declared.Answer.{Answer}
-use Rattle.channel.specs.Outcome.{Outcome, numberIn, channelIn, sliceIn}
-use Rattle.channel.specs.Verbs.{verbOutcome}
-use Rattle.channel.specs.Advance.{stepOutcome, timeOutcome}
-use Rattle.channel.specs.Answers.{Answers}
-use Rattle.channel.specs.Calls.{Call, verb, advance, advanceTo, outcomeOf, sliceOf, callNumber, callChannel, callSlice}
+use Rattle.group.specs.Outcome.{Outcome, numberIn, channelIn, sliceIn}
+use Rattle.group.specs.Verbs.{verbOutcome}
+use Rattle.group.specs.Advance.{stepOutcome, timeOutcome}
+use Rattle.group.specs.Answers.{Gives}
+use Rattle.group.specs.Calls.{Call, verb, advance, advanceTo, outcomeOf, sliceOf, callNumber, callChannel, callSlice}
 use Rattle.calls.specs.Encoding.{verbAt, kinds, identities, times, callOf, lesser}
 use Rattle.calls.specs.Steps.{OneCall}
 
@@ -44,7 +44,7 @@ module _ (n : ℕ) (d : List ℕ) where
       (λ h. ⊎-elim (λ e. ap sliceOf (is-advance h e)) (λ e. ap sliceOf (is-to h e)) (tested (eqb (n % kinds) 8)))
       (less (n % kinds) 8)
 
-pub same-outcome : (c : Channel) (n : ℕ) (d e : List ℕ) → outcomeOf c (callOf n d) ≡ outcomeOf c (callOf n e)
+pub same-outcome : (c : State) (n : ℕ) (d e : List ℕ) → outcomeOf c (callOf n d) ≡ outcomeOf c (callOf n e)
 same-outcome c n d e =
     ⊎-elim
     (λ h. ap (outcomeOf c) (is-verb n d h) ∙ sym (ap (outcomeOf c) (is-verb n e h)))
@@ -56,12 +56,12 @@ same-outcome c n d e =
     (less (n % kinds) 8)
 
 -- only the length of the slice counts
-pub same-number : (c : Channel) (n : ℕ) (d e : List ℕ) → length d ≡ length e → callNumber c (callOf n d) ≡ callNumber c (callOf n e)
+pub same-number : (c : State) (n : ℕ) (d e : List ℕ) → length d ≡ length e → callNumber c (callOf n d) ≡ callNumber c (callOf n e)
 unfolding callNumber
 same-number c n d e q =
     ap₂ (λ (o : Outcome) (m : ℕ). numberIn o m) (same-outcome c n d e) (ap length (its-slice n d) ∙ q ∙ sym (ap length (its-slice n e)))
 
-pub same-channel : (c : Channel) (n : ℕ) (d e : List ℕ) → length d ≡ length e → callChannel c (callOf n d) ≡ callChannel c (callOf n e)
+pub same-channel : (c : State) (n : ℕ) (d e : List ℕ) → length d ≡ length e → callChannel c (callOf n d) ≡ callChannel c (callOf n e)
 unfolding callChannel
 same-channel c n d e q =
     ap₂ (λ (o : Outcome) (m : ℕ). channelIn c o m) (same-outcome c n d e) (ap length (its-slice n d) ∙ q ∙ sym (ap length (its-slice n e)))
@@ -94,8 +94,8 @@ module _ (m : ℕ) (d : List ℕ) where
 -- ---- the answer of a call
 
 pub one-call :
-    (c : Channel) (k m : ℕ) (d : List ℕ) {e : ℕ} {r : Answer} {s d′ : List ℕ} → e ≡ lesser m (length d) →
-    Answers c (outcomeOf c (callOf k (take e d))) (take e d) r s → d′ ≡ s ++ drop e d → OneCall c k m d r d′
+    (c : State) (k m : ℕ) (d : List ℕ) {e : ℕ} {r : Answer} {s d′ : List ℕ} → e ≡ lesser m (length d) →
+    Gives c (outcomeOf c (callOf k (take e d))) (take e d) (r .verdict) (r .written) (r .channel .state) s → d′ ≡ s ++ drop e d → OneCall c k m d r d′
 unfolding callNumber callChannel callSlice
 one-call c k m d {e} {r} {s} {d′} q p f =
     let these : take e d ≡ take m d = ap (λ (n : ℕ). take n d) q ∙ first-bytes m d in

@@ -14,8 +14,8 @@ use Rattle.server.specs.declared.Verb.{Verb}
 use Rattle.server.specs.declared.Verb.the-variants.{Start, Ready, Unready, Pass, Crash, Restart, Cut, Mend}
 use Rattle.server.specs.Verbs.{verbNumber}
 use Rattle.server.proofs.Table.{verb-below}
-use Rattle.channel.specs.declared.Channel.{Channel}
-use Rattle.channel.specs.Calls.{Call, verb, advance, advanceTo, sliceOf, callNumber, callChannel, channelAfter, numbersOf}
+use Rattle.group.specs.declared.State.{State}
+use Rattle.group.specs.Calls.{Call, verb, advance, advanceTo, sliceOf, callNumber, callChannel, channelAfter, numbersOf}
 use Rattle.calls.specs.Encoding.{verbAt, kinds, identities, times, callOf, lesser, callsOf, Encodable, EveryListEncodes}
 use Rattle.calls.proofs.Calling.{is-verb, is-advance, is-to, same-number, same-channel}
 
@@ -85,7 +85,7 @@ module _ (n : ℕ) where
   fits (advanceTo t d) e = e .1
 
   -- the call that is read back does the same on every channel
-  module _ (c : Channel) (k : Call) (e : Encodable n k) where
+  module _ (c : State) (k : Call) (e : Encodable n k) where
     abbrev blank : List ℕ
     blank = replicate (lesser (length (sliceOf k)) n) 0
 
@@ -110,19 +110,19 @@ module _ (n : ℕ) where
   short (k ∷ ks) h e (suc zero) = omega (arith, fits k (e k (List·Memᴰ·head refl)))
   short (k ∷ ks) h e (suc (suc i)) = short ks h (λ x m. e x (List·Memᴰ·tail m)) i
 
-  numbers : (ks : List Call) → All ks → (c : Channel) → numbersOf c (callsOf n (codesOf ks)) ≡ numbersOf c ks
+  numbers : (ks : List Call) → All ks → (c : State) → numbersOf c (callsOf n (codesOf ks)) ≡ numbersOf c ks
   unfolding codesOf callsOf numbersOf
   numbers [] e c = refl
   numbers (k ∷ ks) e c =
       let here = e k (List·Memᴰ·head refl) in
-      ap₂ (λ (x : ℕ) (y : Channel). x ∷ numbersOf y (callsOf n (codesOf ks))) (number-back c k here) (channel-back c k here)
+      ap₂ (λ (x : ℕ) (y : State). x ∷ numbersOf y (callsOf n (codesOf ks))) (number-back c k here) (channel-back c k here)
       ∙ ap (λ (l : List ℕ). callNumber c k ∷ l) (numbers ks (λ x m. e x (List·Memᴰ·tail m)) (callChannel c k))
 
-  channel : (ks : List Call) → All ks → (c : Channel) → channelAfter c (callsOf n (codesOf ks)) ≡ channelAfter c ks
+  channel : (ks : List Call) → All ks → (c : State) → channelAfter c (callsOf n (codesOf ks)) ≡ channelAfter c ks
   unfolding codesOf callsOf channelAfter
   channel [] e c = refl
   channel (k ∷ ks) e c =
-      ap (λ (y : Channel). channelAfter y (callsOf n (codesOf ks))) (channel-back c k (e k (List·Memᴰ·head refl)))
+      ap (λ (y : State). channelAfter y (callsOf n (codesOf ks))) (channel-back c k (e k (List·Memᴰ·head refl)))
       ∙ channel ks (λ x m. e x (List·Memᴰ·tail m)) (callChannel c k)
 
 pub every-list-encodes : EveryListEncodes

@@ -1,46 +1,45 @@
 -- How a list of calls ends. Assumes nothing.
 use mathlib.Core.Bool.{true, false}
-use mathlib.Core.Path.{_≡_, refl, sym, ap, subst, _∙_}
+use mathlib.Core.Path.{_≡_, sym, ap, subst, _∙_}
 use mathlib.Core.List.{List}
 use Prim.Native.Nat.{ℕ, _/_, _≤_, _<_}
 use native.Mathlib.Omega.{arith}
 use borrow.Author.Tests.{eq-eqb, ne-eqb, le-leb, lt-leb}
-use lib.Dec.{eqb, leb}
+use lib.Dec.{eqb}
 use lib.ListN.{length}
 use Rattle.lists.specs.Choice.{choose}
-use Rattle.lists.specs.Splice.{splice}
 use Rattle.lists.proofs.Cases.{chosen, other}
 use Rattle.refusal.specs.declared.Refusal.{Refusal}
 use Rattle.refusal.specs.declared.Refusal.the-variants.{Short}
 use Rattle.refusal.specs.declared.Verdict.the-variants.{Accepted, Refused}
-use Rattle.refusal.specs.Answer.{ofVerdict, numberOf}
+use Rattle.refusal.specs.Answer.{numberOf}
 use Rattle.refusal.proofs.Answers.{number-some}
 use Rattle.heartbeat.specs.declared.Rank.{Rank}
 use Rattle.server.specs.Period.{takePeriod}
-use Rattle.channel.specs.declared.Table.{Table}
+use Rattle.group.specs.declared.Table.{Table}
+use Rattle.group.specs.declared.State.{State}
 use Rattle.channel.specs.declared.Channel.{Channel}
-use Rattle.channel.specs.declared.Opened.{Opened}
-use Rattle.channel.specs.Table.{most, empty, counted, freshRefusal, fresh}
-use Rattle.channel.specs.Answers.{closed, Opens}
-use Rattle.channel.specs.Calls.{Call, channelAfter, numbersOf}
+use Rattle.group.specs.Table.{most, empty, tableOf, freshRefusal, fresh}
+use Rattle.group.specs.Answers.{noChannel}
+use Rattle.group.specs.Calls.{channelAfter}
 use Rattle.settling.specs.Links.{NoLinkCut}
-use Rattle.settling.specs.Demand.{tableOf, InThoseRoles, settlingTime, Settles}
+use Rattle.settling.specs.Demand.{InThoseRoles, settlingTime, Settles}
 use Rattle.settling.proofs.Demand.{settles}
 use Rattle.calls.specs.declared.Ended.{Ended}
 use Rattle.calls.specs.Encoding.{callsOf}
-use Rattle.calls.specs.Running.{bytesAfter, listed, listRefusal, RunsList}
+use Rattle.calls.specs.Running.{listed, listRefusal, RunsList}
 use Rattle.calls.specs.Steps.{ListRuns}
 use Rattle.calls.proofs.Going.{how-many}
 use Rattle.calls.proofs.Encoded.{every-list-encodes}
 
 -- the channel that stands where none was opened
-pub closed-is : {t : Table} {x : Channel} → x ≡ choose (eqb (freshRefusal t 2) 0) (fresh t 2) closed → t ≡ empty → x ≡ closed
+pub no-channel-is : {t : Table} {x : State} → x ≡ choose (eqb (freshRefusal t 2) 0) (fresh t 2) noChannel → t ≡ empty → x ≡ noChannel
 unfolding freshRefusal takePeriod choose
-closed-is {t} {x} e q = e ∙ ap (λ (y : Table). choose (eqb (freshRefusal y 2) 0) (fresh y 2) closed) q
+no-channel-is {t} {x} e q = e ∙ ap (λ (y : Table). choose (eqb (freshRefusal y 2) 0) (fresh y 2) noChannel) q
 
 module _ (t : Table) (n : ℕ) (ks d e : List ℕ) where
   -- a list that is refused
-  ends-not : (k : Refusal) {r : Ended} → listRefusal t n ks d e ≡ numberOf k → r ≡ record { verdict = Refused k; channel = closed } → RunsList t n ks d e r d e
+  ends-not : (k : Refusal) {r : Ended} → listRefusal t n ks d e ≡ numberOf k → r ≡ record { verdict = Refused k; channel = record { state = noChannel } } → RunsList t n ks d e r d e
   ends-not k {r} q p =
       let some : eqb (listRefusal t n ks d e) 0 ≡ false = ne-eqb (listRefusal t n ks d e) 0 (λ z. omega (arith, number-some k)) in
       rw p
@@ -54,23 +53,23 @@ module _ (t : Table) (n : ℕ) (ks d e : List ℕ) where
       })
 
   -- 2, 6, 7
-  pub ends-unopened : {k : Refusal} {r : Ended} → r ≡ record { verdict = Refused k; channel = closed } → freshRefusal t n ≡ numberOf k → RunsList t n ks d e r d e
+  pub ends-unopened : {k : Refusal} {r : Ended} → r ≡ record { verdict = Refused k; channel = record { state = noChannel } } → freshRefusal t n ≡ numberOf k → RunsList t n ks d e r d e
   unfolding listRefusal
   ends-unopened {k} {r} p q =
       ends-not k (other _ (ne-eqb (freshRefusal t n) 0 (λ z. omega (arith, number-some k))) ∙ q) p
 
   -- 9
-  pub ends-short : {r : Ended} → freshRefusal t n ≡ 0 → length e < length ks / 2 → r ≡ record { verdict = Refused Short; channel = closed } → RunsList t n ks d e r d e
+  pub ends-short : {r : Ended} → freshRefusal t n ≡ 0 → length e < length ks / 2 → r ≡ record { verdict = Refused Short; channel = record { state = noChannel } } → RunsList t n ks d e r d e
   unfolding listRefusal
   ends-short q h p = ends-not Short (chosen _ (eq-eqb _ 0 q) ∙ other _ (lt-leb (length (callsOf (length d) ks)) (length e) (omega (arith, how-many (length d) ks)))) p
 
   -- all calls made: demand 3 holds of the channel
   pub ends :
-      {c x : Channel} {d′ e′ : List ℕ} → freshRefusal t n ≡ 0 → length ks / 2 ≤ length e → c ≡ fresh t n → ListRuns c ks d e x d′ e′ →
+      {c x : Channel} {d′ e′ : List ℕ} → freshRefusal t n ≡ 0 → length ks / 2 ≤ length e → c .state ≡ fresh t n → ListRuns (c .state) ks d e (x .state) d′ e′ →
       RunsList t n ks d e (record { verdict = Accepted; channel = x }) d′ e′
   unfolding listRefusal
   ends {c} {x} {d′} {e′} q h same v =
-      let w : ListRuns (fresh t n) ks d e x d′ e′ = subst (λ (y : Channel). ListRuns y ks d e x d′ e′) same v in
+      let w : ListRuns (fresh t n) ks d e (x .state) d′ e′ = subst (λ (y : State). ListRuns y ks d e (x .state) d′ e′) same v in
       let none : listRefusal t n ks d e ≡ 0 = chosen _ (eq-eqb _ 0 q) ∙ chosen _ (le-leb (length (callsOf (length d) ks)) (length e) (omega (arith, how-many (length d) ks))) in
       let yes : eqb (listRefusal t n ks d e) 0 ≡ true = eq-eqb _ 0 none in
       record {
@@ -84,10 +83,10 @@ module _ (t : Table) (n : ℕ) (ks d e : List ℕ) where
             settling rs made uncut i l (w .channel) active;
       }
     where
-      settling : (rs : List Rank) → t ≡ tableOf rs → NoLinkCut (fresh t n) (listed t n ks d e) → (i : ℕ) → i < most → x ≡ channelAfter (fresh t n) (listed t n ks d e) →
-          InThoseRoles x i → Settles (settlingTime n) x
+      settling : (rs : List Rank) → t ≡ tableOf rs → NoLinkCut (fresh t n) (listed t n ks d e) → (i : ℕ) → i < most → x .state ≡ channelAfter (fresh t n) (listed t n ks d e) →
+          InThoseRoles (x .state) i → Settles (settlingTime n) (x .state)
       settling rs made uncut i l is active =
           let here : channelAfter (fresh t n) (listed t n ks d e) ≡ channelAfter (fresh (tableOf rs) n) (listed t n ks d e) = ap (λ (y : Table). channelAfter (fresh y n) (listed t n ks d e)) made in
           subst (Settles (settlingTime n)) (sym (is ∙ here))
           (settles n rs (listed t n ks d e) (subst (λ (y : Table). freshRefusal y n ≡ 0) made q) (subst (λ (y : Table). NoLinkCut (fresh y n) (listed t n ks d e)) made uncut) i l
-          (subst (λ (y : Channel). InThoseRoles y i) (is ∙ here) active))
+          (subst (λ (y : State). InThoseRoles y i) (is ∙ here) active))

@@ -7,9 +7,9 @@ use lib.ListN.{length, drop, take, getD, set, replicate, length-append, length-r
 use lib.Seq.{drop-cons}
 use Rattle.lists.specs.Splice.{splice}
 use Rattle.lists.proofs.Splicing.{splice-none, splice-more, splice-length}
-use Rattle.channel.specs.declared.Channel.{Channel}
+use Rattle.group.specs.declared.State.{State}
 use Rattle.channel.specs.declared.Answer.{Answer}
-use Rattle.channel.specs.Calls.{Call, callNumber, callChannel, callSlice, channelAfter, numbersOf}
+use Rattle.group.specs.Calls.{Call, callNumber, callChannel, callSlice, channelAfter, numbersOf}
 use Rattle.refusal.specs.Answer.{ofVerdict}
 use Rattle.calls.specs.Encoding.{callOf, callsOf, lesser}
 use Rattle.calls.specs.Running.{bytesAfter}
@@ -23,7 +23,7 @@ how-many n [] = omega arith
 how-many n (k ∷ []) = omega arith
 how-many n (k ∷ m ∷ ks) = omega (arith, how-many n ks)
 
-numbers-long : (c : Channel) (ks : List Call) → length (numbersOf c ks) ≡ length ks
+numbers-long : (c : State) (ks : List Call) → length (numbersOf c ks) ≡ length ks
 unfolding numbersOf
 numbers-long c [] = refl
 numbers-long c (k ∷ ks) = ap suc (numbers-long (callChannel c k) ks)
@@ -34,14 +34,14 @@ no-calls n [] h = refl
 no-calls n (k ∷ []) h = refl
 no-calls n (k ∷ m ∷ ks) h = absurd (omega arith)
 
-no-bytes : (c : Channel) (d ks : List ℕ) → length ks < 2 → bytesAfter c d ks ≡ d
+no-bytes : (c : State) (d ks : List ℕ) → length ks < 2 → bytesAfter c d ks ≡ d
 unfolding bytesAfter
 no-bytes c d [] h = refl
 no-bytes c d (k ∷ []) h = refl
 no-bytes c d (k ∷ m ∷ ks) h = absurd (omega arith)
 
 -- the calls of ks on c₀, of which k are made: what is left is the rest of all
-pub record Going (c₀ : Channel) (ks d₀ e₀ d e : List ℕ) (c : Channel) (i k : ℕ) : Type 0 where
+pub record Going (c₀ : State) (ks d₀ e₀ d e : List ℕ) (c : State) (i k : ℕ) : Type 0 where
   pub even : i ≡ k + k
   pub within : k ≤ length ks / 2
   pub room : length d ≡ length d₀
@@ -52,7 +52,7 @@ pub record Going (c₀ : Channel) (ks d₀ e₀ d e : List ℕ) (c : Channel) (i
   pub long : length done ≡ k
   pub numbers : done ++ numbersOf c (callsOf (length d₀) (drop i ks)) ≡ numbersOf c₀ (callsOf (length d₀) ks)
 
-module _ {c₀ : Channel} {ks d₀ e₀ : List ℕ} where
+module _ {c₀ : State} {ks d₀ e₀ : List ℕ} where
   pub go-begin : Going c₀ ks d₀ e₀ d₀ e₀ c₀ 0 0
   go-begin =
       record {
@@ -68,9 +68,9 @@ module _ {c₀ : Channel} {ks d₀ e₀ : List ℕ} where
       }
 
   pub go-turn :
-      {d e : List ℕ} {c : Channel} {i k n : ℕ} {r : Answer} {d′ : List ℕ} → Going c₀ ks d₀ e₀ d e c i k → k < length ks / 2 → length ks / 2 ≤ length e₀ →
+      {d e : List ℕ} {c : State} {i k n : ℕ} {r : Answer} {d′ : List ℕ} → Going c₀ ks d₀ e₀ d e c i k → k < length ks / 2 → length ks / 2 ≤ length e₀ →
       length d′ ≡ length d → OneCall c (getD ks i 0) (getD ks (i + 1) 0) d r d′ → n ≡ ofVerdict (r .verdict) →
-      Going c₀ ks d₀ e₀ d′ (set e k n) (r .channel) (i + 2) (k + 1)
+      Going c₀ ks d₀ e₀ d′ (set e k n) (r .channel .state) (i + 2) (k + 1)
   unfolding callsOf channelAfter numbersOf bytesAfter
   go-turn {d} {e} {c} {i} {k} {n} {r} {d′} v h fits same p q =
       let a = getD ks i 0 in
@@ -84,18 +84,18 @@ module _ {c₀ : Channel} {ks d₀ e₀ : List ℕ} where
       let alike : length (take m d) ≡ length blank =
       first-long m d ∙ ap (lesser m) (v .room) ∙ sym (length-replicate (lesser m (length d₀)) 0)
       in
-      let there : r .channel ≡ callChannel c call = p .channel ∙ same-channel c a (take m d) (replicate (lesser m (length d₀)) 0) alike in
+      let there : r .channel .state ≡ callChannel c call = p .channel ∙ same-channel c a (take m d) (replicate (lesser m (length d₀)) 0) alike in
       let gets : n ≡ callNumber c call = q ∙ p .number ∙ same-number c a (take m d) (replicate (lesser m (length d₀)) 0) alike in
       record {
         even = omega arith;
         within = omega arith;
         room = same ∙ v .room;
         channel =
-            ap (λ (x : Channel). channelAfter x (callsOf (length d₀) (drop (i + 2) ks))) there
+            ap (λ (x : State). channelAfter x (callsOf (length d₀) (drop (i + 2) ks))) there
             ∙ sym (ap (λ (l : List ℕ). channelAfter c (callsOf (length d₀) l)) opened)
             ∙ v .channel;
         bytes =
-            ap₂ (λ (x : Channel) (y : List ℕ). bytesAfter x y (drop (i + 2) ks)) (p .channel) (p .slice)
+            ap₂ (λ (x : State) (y : List ℕ). bytesAfter x y (drop (i + 2) ks)) (p .channel) (p .slice)
             ∙ sym (ap (bytesAfter c d) opened)
             ∙ v .bytes;
         done = v .done ++ (n ∷ []);
@@ -106,7 +106,7 @@ module _ {c₀ : Channel} {ks d₀ e₀ : List ℕ} where
         numbers =
             append-assoc (v .done) (n ∷ []) _
             ∙ ap (λ (l : List ℕ). v .done ++ l)
-            (ap₂ (λ (x : ℕ) (y : Channel). x ∷ numbersOf y (callsOf (length d₀) (drop (i + 2) ks))) gets there
+            (ap₂ (λ (x : ℕ) (y : State). x ∷ numbersOf y (callsOf (length d₀) (drop (i + 2) ks))) gets there
             ∙ sym (ap (λ (l : List ℕ). numbersOf c (callsOf (length d₀) l)) opened))
             ∙ v .numbers;
       }
@@ -116,7 +116,7 @@ module _ {c₀ : Channel} {ks d₀ e₀ : List ℕ} where
           ap (λ (x : ℕ). drop x ks) (let z : suc i ≡ i + 1 = omega arith in z) ∙ drop-cons ks (i + 1) 0 g
           ∙ ap (λ (x : ℕ). getD ks (i + 1) 0 ∷ drop x ks) (let z : suc (i + 1) ≡ i + 2 = omega arith in z)
 
-  pub go-end : {d e : List ℕ} {c : Channel} {i k : ℕ} → Going c₀ ks d₀ e₀ d e c i k → length ks / 2 ≤ k → ListRuns c₀ ks d₀ e₀ c d e
+  pub go-end : {d e : List ℕ} {c : State} {i k : ℕ} → Going c₀ ks d₀ e₀ d e c i k → length ks / 2 ≤ k → ListRuns c₀ ks d₀ e₀ c d e
   unfolding channelAfter numbersOf
   go-end {d} {e} {c} {i} {k} v h =
       let even = v .even in
@@ -128,5 +128,5 @@ module _ {c₀ : Channel} {ks d₀ e₀ : List ℕ} where
         bytes = sym (no-bytes c d (drop i ks) few) ∙ v .bytes;
       }
 
-  pub go-fits : {d e : List ℕ} {c : Channel} {i k : ℕ} → Going c₀ ks d₀ e₀ d e c i k → k ≤ length e₀ → length e ≡ length e₀
+  pub go-fits : {d e : List ℕ} {c : State} {i k : ℕ} → Going c₀ ks d₀ e₀ d e c i k → k ≤ length e₀ → length e ≡ length e₀
   go-fits v h = ap length (v .written) ∙ splice-length _ 0 (v .done) (omega (arith, v .long))

@@ -7,8 +7,8 @@ use lib.ListN.{length, replicate, getD}
 use Rattle.lists.specs.Choice.{choose}
 use Rattle.server.specs.declared.Verb.{Verb}
 use Rattle.server.specs.declared.Verb.the-variants.{Start, Ready, Unready, Pass, Crash, Restart, Cut, Mend}
-use Rattle.channel.specs.declared.Channel.{Channel}
-use Rattle.channel.specs.Calls.{Call, verb, advance, advanceTo, channelAfter, numbersOf}
+use Rattle.group.specs.declared.State.{State}
+use Rattle.group.specs.Calls.{Call, verb, advance, advanceTo, channelAfter, numbersOf}
 
 -- the verb with the number k, in the order of `Verb`
 unfoldable pub verbAt : ℕ → Verb
@@ -29,7 +29,7 @@ kinds = 10
 abbrev pub identities : ℕ
 identities = 65536
 
--- times are below 4,294,967,296
+-- times are below 4,294,967,296: most of them are outside the day, and get 3
 abbrev pub times : ℕ
 times = 4294967296
 
@@ -50,9 +50,10 @@ callsOf n [] = []
 callsOf n (k ∷ []) = []
 callsOf n (k ∷ m ∷ ks) = callOf k (replicate (lesser m n) 0) ∷ callsOf n ks
 
--- ---- every list of calls has an encoding
+-- ---- which lists of calls have an encoding
 
--- a call whose identities are 0 to 65,535, whose time is below 4,294,967,296, and whose slice has at most n bytes
+-- a call whose identities are 0 to 65,535, whose time is at most 4,294,967,295, and whose slice has at most n bytes: by their types the calls of the
+-- crate channel have no greater identities and times
 abbrev pub Encodable : ℕ → Call → Type 0
 Encodable n (verb v a b d) = (a < identities) × (b < identities) × (length d ≤ n)
 Encodable n (advance d) = length d ≤ n
@@ -62,9 +63,9 @@ Encodable n (advanceTo t d) = (t < times) × (length d ≤ n)
 pub record Encodes (n : ℕ) (ks : List Call) : Type 0 where
   pub code : List ℕ
   pub short : (i : ℕ) → getD code i 0 < 2 ^ 64
-  pub numbers : (c : Channel) → numbersOf c (callsOf n code) ≡ numbersOf c ks
-  pub channel : (c : Channel) → channelAfter c (callsOf n code) ≡ channelAfter c ks
+  pub numbers : (c : State) → numbersOf c (callsOf n code) ≡ numbersOf c ks
+  pub channel : (c : State) → channelAfter c (callsOf n code) ≡ channelAfter c ks
 
--- every list of such calls has an encoding. The proof is in proofs/Encoded.antt
+-- every list of such calls has an encoding, where the lent slice has n bytes, below 2 ^ 64. The proof is in proofs/Encoded.antt
 abbrev pub EveryListEncodes : Type 0
 EveryListEncodes = (n : ℕ) (ks : List Call) → n < 2 ^ 64 → ((k : Call) → List·Memᴰ k ks → Encodable n k) → Encodes n ks

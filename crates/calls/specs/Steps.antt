@@ -5,20 +5,20 @@ use Prim.Native.Nat.{ℕ}
 use lib.ListN.{length, take, drop}
 use Rattle.lists.specs.Splice.{splice}
 use Rattle.refusal.specs.Answer.{ofVerdict}
-use Rattle.channel.specs.declared.Channel.{Channel}
+use Rattle.group.specs.declared.State.{State}
 use Rattle.channel.specs.declared.Answer.{Answer}
-use Rattle.channel.specs.Calls.{callNumber, callChannel, callSlice, channelAfter, numbersOf}
+use Rattle.group.specs.Calls.{callNumber, callChannel, callSlice, channelAfter, numbersOf}
 use Rattle.calls.specs.Encoding.{callOf, callsOf}
 use Rattle.calls.specs.Running.{bytesAfter}
 
 -- the call of the number k, lent the first m bytes of d
-pub record OneCall (c : Channel) (k m : ℕ) (d : List ℕ) (r : Answer) (d′ : List ℕ) : Type 0 where
+pub record OneCall (c : State) (k m : ℕ) (d : List ℕ) (r : Answer) (d′ : List ℕ) : Type 0 where
   pub number : ofVerdict (r .verdict) ≡ callNumber c (callOf k (take m d))
-  pub channel : r .channel ≡ callChannel c (callOf k (take m d))
+  pub channel : r .channel .state ≡ callChannel c (callOf k (take m d))
   pub slice : d′ ≡ callSlice c (callOf k (take m d)) ++ drop m d
 
 -- all the calls
-pub record ListRuns (c : Channel) (ks d e : List ℕ) (r : Channel) (d′ e′ : List ℕ) : Type 0 where
+pub record ListRuns (c : State) (ks d e : List ℕ) (r : State) (d′ e′ : List ℕ) : Type 0 where
   pub channel : r ≡ channelAfter c (callsOf (length d) ks)
   pub numbers : e′ ≡ splice e 0 (numbersOf c (callsOf (length d) ks))
   pub bytes : d′ ≡ bytesAfter c d ks

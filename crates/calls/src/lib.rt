@@ -1,15 +1,16 @@
 // A whole list of calls on one channel, and demand 3 of the channel that it ends with.
 use channel::Answer;
 use channel::Channel;
-use channel::Table;
+use group::Table;
 use refusal::Refusal;
 use refusal::Verdict;
 use server::Verb;
 ghost use mathlib.Core.Path.{_≡_};
 ghost use Prim.Native.Nat.{_<_, _≤_};
 ghost use lib.ListN.{length};
-ghost use Rattle.channel.specs.Calls.{outcomeOf};
-ghost use Rattle.channel.specs.Answers.{Answers, closed};
+ghost use Rattle.group.specs.Calls.{outcomeOf};
+ghost use Rattle.group.specs.Answers.{noChannel};
+ghost use Rattle.channel.specs.Answers.{Answers};
 ghost use Rattle.refusal.specs.Answer.{ofVerdict};
 ghost use Rattle.calls.specs.Encoding.{verbAt, callOf, lesser, callsOf};
 ghost use Rattle.calls.specs.Running.{RunsList};
@@ -21,7 +22,8 @@ pub struct Ended {
     pub channel: Channel,
 }
 
-fn verb_at(k: u64) -> Verb
+// The verb of a number; each number from 7 on is `mend`.
+pub fn verb_at(k: u64) -> Verb
     ensures { λ r. ⌜ r ≡ verbAt k ⌝ }
 {
     if k == 0 {
@@ -45,7 +47,7 @@ fn verb_at(k: u64) -> Verb
 
 // The call of a number, with the slice.
 fn call(channel: Channel, n: u64, out: &mut [u8]) -> Answer
-    ensures { λ r. ⌜ Answers channel (outcomeOf channel (callOf n (now (out .entry)))) (now (out .entry)) r (now (out .exit)) ⌝ }
+    ensures { λ r. ⌜ Answers channel (outcomeOf (channel .state) (callOf n (now (out .entry)))) (now (out .entry)) r (now (out .exit)) ⌝ }
 {
     let kind = n % 10;
     let about = n / 10;
@@ -68,7 +70,7 @@ fn lesser(m: u64, n: usize) -> usize
 
 // The call of a number, lent the first m bytes.
 fn lend(channel: Channel, n: u64, m: u64, out: &mut [u8]) -> Answer
-    ensures { λ r. ⌜ OneCall channel n m (now (out .entry)) r (now (out .exit)) ⌝ }
+    ensures { λ r. ⌜ OneCall (channel .state) n m (now (out .entry)) r (now (out .exit)) ⌝ }
 {
     let end = lesser(m, out.len());
     call(channel, n, &mut out[..end])
@@ -86,7 +88,7 @@ fn number(verdict: Verdict) -> u8
 // All the calls, where there is room for their numbers.
 fn run(channel: Channel, calls: &[u64], out: &mut [u8], numbers: &mut [u8]) -> Channel
     requires { ⌜ length (callsOf (length (now out)) (now calls)) ≤ length (now numbers) ⌝ }
-    ensures { λ r. ⌜ ListRuns channel (now (calls .entry)) (now (out .entry)) (now (numbers .entry)) r (now (out .exit)) (now (numbers .exit)) ⌝ }
+    ensures { λ r. ⌜ ListRuns (channel .state) (now (calls .entry)) (now (out .entry)) (now (numbers .entry)) (r .state) (now (out .exit)) (now (numbers .exit)) ⌝ }
 {
     let mut now = channel;
     let mut i: usize = 0;
@@ -104,7 +106,7 @@ fn run(channel: Channel, calls: &[u64], out: &mut [u8], numbers: &mut [u8]) -> C
 }
 
 fn refused(k: Refusal) -> Ended
-    ensures { λ r. ⌜ r ≡ record { verdict = Verdict.Refused k; channel = closed } ⌝ }
+    ensures { λ r. ⌜ r ≡ record { verdict = Verdict.Refused k; channel = record { state = noChannel } } ⌝ }
 {
     let opened = Channel::fresh(Table::empty(), 2);
     let channel = opened.channel;
@@ -114,8 +116,8 @@ fn refused(k: Refusal) -> Ended
     }
 }
 
-// The calls that the numbers encode, two a call, on the fresh channel of the table; each call is lent the first bytes of `out`, and its number
-// goes to `numbers`: 2, 6, 7, 9.
+// The calls that the numbers encode, two a call, on the fresh channel of the table; each call is lent the first bytes of `out`, and what it gets
+// goes to `numbers`. The list itself gets 2, 6 or 7 where no channel is opened, and 9 where `numbers` is too short; then no call is made.
 pub fn run_list(
     table: Table,
     period: u32,

@@ -13,7 +13,7 @@ use Rattle.text.specs.Number.{readNumber}
 use Rattle.text.specs.Line.{field, afterField}
 use Rattle.server.specs.declared.Server.{Server}
 use Rattle.server.specs.Verbs.{roleNumber}
-use Rattle.channel.specs.Table.{isEmpty, counted}
+use Rattle.group.specs.Table.{isEmpty, counted}
 use Rattle.cases.specs.declared.Arg.{Arg}
 use Rattle.cases.specs.declared.Args.{Args}
 use Rattle.cases.specs.declared.Roles.{Roles}

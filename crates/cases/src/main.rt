@@ -11,7 +11,7 @@
 // bytes were written, how many bytes after them are as before, the frame, a digit for the role of each server, and then what was written.
 use channel::Answer;
 use channel::Channel;
-use channel::Table;
+use group::Table;
 use libc::STDOUT_FILENO;
 use refusal::Refusal;
 use refusal::Verdict;
@@ -28,7 +28,7 @@ ghost use Rattle.lists.specs.Choice.{choose};
 ghost use Rattle.refusal.specs.Answer.{ofVerdict};
 ghost use Rattle.text.specs.Steps.{Pieces};
 ghost use Rattle.server.specs.Verbs.{roleNumber, verbNumber};
-ghost use Rattle.channel.specs.Table.{isEmpty};
+ghost use Rattle.group.specs.Table.{isEmpty};
 ghost use Rattle.cases.specs.Cases.{argIn, argsIn, fillers, Shows, two, tableLine, counts, callLine};
 
 // ---- the numbers of a line
@@ -283,17 +283,11 @@ fn say_table(verdict: Verdict, servers: [Server; 16]) {
 
 fn say_call(verdict: Verdict, written: usize, channel: Channel, lent: &[u8]) {
     if written <= lent.len() {
-        let servers = channel.servers;
+        let state = channel.state;
+        let servers = state.servers;
         let n = fillers(&lent[written..]);
         let mut out = [0u8; 64];
-        let line = put_call(
-            &mut out,
-            number(verdict),
-            written,
-            n,
-            channel.frame,
-            servers,
-        );
+        let line = put_call(&mut out, number(verdict), written, n, state.frame, servers);
         print(&out, end(line));
         print(lent, written);
     } else {

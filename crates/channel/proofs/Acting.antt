@@ -1,161 +1,222 @@
 -- What verbs do. Assumes nothing.
 use mathlib.Core.Bool.{Bool, true, false, not, _&&_}
-use mathlib.Core.Path.{_≡_, refl, sym, ap, ap₂, subst, _∙_}
-use mathlib.Core.List.{List, []}
-use Prim.Native.Nat.{ℕ, _+_, _≤_, _<_}
+use mathlib.Core.Path.{_≡_, refl, sym, ap, ap₂, _∙_}
+use mathlib.Core.List.{List, [], _∷_}
+use Prim.{tt}
+use Prim.Native.Nat.{ℕ, _+_, _%_, _≤_, _<_}
+use native.Mathlib.Nat.{mod-eq-of-lt}
 use native.Mathlib.Omega.{arith}
-use borrow.Author.Tests.{ltb-true}
+use borrow.Author.Tests.{ltb-true, lt-leb, eqb-true, eq-eqb, ne-eqb}
+use denote.Enum.Declared.{tagOf}
+use types.Run.{OneOf, miss}
 use lib.Dec.{eqb, ltb}
-use lib.ListN.{set, getD}
-use lib.Seq.{set-getD}
+use lib.ListN.{length, set}
+use lib.Seq.{set-getD, set-set}
 use Rattle.lists.specs.Choice.{choose}
-use Rattle.lists.proofs.Cases.{chosen, other, fst-true, snd-true}
+use Rattle.lists.proofs.Cases.{tested, on, chosen, other, not-first, fst-true, snd-true}
 use Rattle.refusal.specs.declared.Refusal.{Refusal}
-use Rattle.refusal.specs.declared.Refusal.the-variants.{Link}
+use Rattle.refusal.specs.declared.Refusal.the-variants.{Short}
+use Rattle.refusal.specs.declared.Verdict.{Verdict}
 use Rattle.refusal.specs.declared.Verdict.the-variants.{Accepted, Refused}
-use Rattle.refusal.specs.Answer.{Answer, ofVerdict, numberOf}
+use Rattle.refusal.specs.Answer.{ofVerdict, numberOf}
 use Rattle.refusal.proofs.Answers.{number-some}
 use Rattle.server.specs.declared.Server.{Server}
-use Rattle.server.specs.declared.Event.{Event}
 use Rattle.server.specs.declared.Event.the-variants as event
 use Rattle.server.specs.declared.Verb.{Verb}
 use Rattle.server.specs.declared.Verb.the-variants.{Start, Ready, Unready, Pass, Crash, Restart, Cut, Mend}
-use Rattle.server.specs.declared.Word.{Word}
 use Rattle.server.specs.declared.Word.the-variants as word
 use Rattle.server.specs.declared.Said.the-variants as says
 use Rattle.server.specs.Server.{absent, after}
 use Rattle.server.specs.Verbs.{paired, verbHappens, verbAnswer}
-use Rattle.channel.specs.declared.Channel.{Channel}
+use Rattle.server.specs.Words.{said}
+use Rattle.server.proofs.Verb.{the-type}
+use Rattle.lines.specs.Lines.{linesOf, Says}
+use Rattle.frames.proofs.Writing.{says-out}
+use Rattle.frames.proofs.Telling.{within, beyond}
+use Rattle.group.specs.declared.State.{State}
+use Rattle.group.specs.Outcome.{Outcome, numberIn, channelIn}
+use Rattle.group.specs.Answers.{Gives}
+use Rattle.group.specs.Table.{most}
+use Rattle.group.specs.Hearing.{place, linkOf, whole}
+use Rattle.group.specs.Verbs.{placeOf, namesNobody, known, stateRefusal, verbRefusal, linksAfter, verbSaid, did, verbOutcome}
+use Rattle.group.proofs.Answering.{is-short, is-long, gives-not, gives-so}
 use Rattle.channel.specs.declared.Deed.{Deed}
-use Rattle.channel.specs.Table.{most}
-use Rattle.channel.specs.Hearing.{place, linkOf, whole}
-use Rattle.channel.specs.Verbs.{placeOf, namesNobody, known, stateRefusal, verbRefusal, happens, did}
-use Rattle.channel.specs.Steps.{linkedTo, Links, knownAt, stateNumber, didAt, DeedAt, Tries}
-
--- no number is 0
-never : {A : Type 0} (k : Refusal) → numberOf k ≡ 0 → A
-never k z = absurd (omega (arith, number-some k))
-
--- ---- links
-
--- neither cut nor mend does anything to a server
-pub cut-nothing : (b : ℕ) (a : Answer) → verbHappens Cut b a ≡ event.Nothing
-unfolding verbHappens
-cut-nothing b a = by (eqb (a .number) 0)
-  where
-    by : (t : Bool) → choose t event.Nothing event.Nothing ≡ event.Nothing
-    by true = chosen _ refl
-    by false = other _ refl
-
-pub mend-nothing : (b : ℕ) (a : Answer) → verbHappens Mend b a ≡ event.Nothing
-unfolding verbHappens
-mend-nothing b a = by (eqb (a .number) 0)
-  where
-    by : (t : Bool) → choose t event.Nothing event.Nothing ≡ event.Nothing
-    by true = chosen _ refl
-    by false = other _ refl
-
--- the servers stay
-stays : (c : Channel) (i : ℕ) {e : Event} → e ≡ event.Nothing → c .servers ≡ set (c .servers) i (after (c .frame) (place c i) e)
-unfolding after
-stays c i q = sym (ap (λ (x : Event). set (c .servers) i (after (c .frame) (place c i) x)) q ∙ set-getD (c .servers) i absent)
-
-module _ (c : Channel) (b i j : ℕ) {r : Deed} where
-  pub cut-deed : Links c (linkOf i j) false 15 word.Cut r → DeedAt c Cut b i j r
-  unfolding choose
-  cut-deed p =
-      record {
-        number = p .number;
-        told = p .told;
-        channel =
-            λ z.
-            p .channel z
-            ∙ ap (λ (l : List Server). record { frame = c .frame; period = c .period; servers = l; whole = set (c .whole) (linkOf i j) false }) (stays c i (cut-nothing b (verbAnswer Cut b (place c i))));
-      }
-
-  pub mend-deed : Links c (linkOf i j) true 15 word.Mended r → DeedAt c Mend b i j r
-  unfolding choose
-  mend-deed p =
-      record {
-        number = p .number;
-        told = p .told;
-        channel =
-            λ z.
-            p .channel z
-            ∙ ap (λ (l : List Server). record { frame = c .frame; period = c .period; servers = l; whole = set (c .whole) (linkOf i j) true }) (stays c i (mend-nothing b (verbAnswer Mend b (place c i))));
-      }
-
--- ---- places
-
-pub known-first : (v : Verb) (a b i j : ℕ) → knownAt v a b i j ≡ true → i < most
-known-first v a b i j e = ltb-true i most (fst-true (ltb i most) _ e)
-
-pub known-second : (v : Verb) (a b i j : ℕ) → knownAt v a b i j ≡ true → paired v ≡ true → j < most
-known-second v a b i j e p = ltb-true j most (fst-true (ltb j most) _ (sym (chosen true p) ∙ snd-true (ltb i most) _ e))
-
-state-same : (c : Channel) (v : Verb) (a b : ℕ) → stateNumber c v b (placeOf c a) (placeOf c b) ≡ stateRefusal c v a b
-unfolding stateRefusal
-state-same c Start a b = refl
-state-same c Ready a b = refl
-state-same c Unready a b = refl
-state-same c Pass a b = refl
-state-same c Crash a b = refl
-state-same c Restart a b = refl
-state-same c Cut a b = refl
-state-same c Mend a b = refl
-
--- ---- the whole verb
-
-module _ (c : Channel) (v : Verb) (a b : ℕ) where
-  pub tries-not : (k : Refusal) {r : Deed} → verbRefusal c v a b ≡ numberOf k → r ≡ record { verdict = Refused k; said = says.Nothing; channel = c } → Tries c v a b r
-  tries-not k e q = rw q (record { number = sym e; told = λ z. never k z; channel = λ z. never k z })
-
-  -- 2, 8, or what the state says
-  pub gets-2 : namesNobody v a b ≡ true → verbRefusal c v a b ≡ 2
-  unfolding verbRefusal
-  gets-2 e = chosen _ e
-
-  pub gets-8 : namesNobody v a b ≡ false → known c v a b ≡ false → verbRefusal c v a b ≡ 8
-  unfolding verbRefusal
-  gets-8 e f = other _ e ∙ other _ f
-
-  pub gets-state : namesNobody v a b ≡ false → known c v a b ≡ true → verbRefusal c v a b ≡ stateRefusal c v a b
-  unfolding verbRefusal
-  gets-state e f = other _ e ∙ chosen _ f
-
-  -- known by the places
-  pub known-by : {i j : ℕ} → i ≡ placeOf c a → j ≡ placeOf c b → known c v a b ≡ knownAt v a b i j
-  unfolding known
-  known-by p q = sym (ap₂ (λ (x y : ℕ). knownAt v a b x y) p q)
-
-  pub tries-state :
-      {i j : ℕ} {r : Deed} → namesNobody v a b ≡ false → i ≡ placeOf c a → j ≡ placeOf c b → knownAt v a b i j ≡ true → DeedAt c v b i j r → Tries c v a b r
-  unfolding did
-  tries-state {i} {j} {r} e p q f w =
-      let w′ : DeedAt c v b (placeOf c a) (placeOf c b) r = subst (λ (y : ℕ). DeedAt c v b (placeOf c a) y r) q (subst (λ (x : ℕ). DeedAt c v b x j r) p w) in
-      record {
-        number = w′ .number ∙ state-same c v a b ∙ sym (gets-state e (known-by p q ∙ f));
-        told = w′ .told;
-        channel = w′ .channel;
-      }
+use Rattle.channel.specs.declared.Told.{Told}
+use Rattle.channel.specs.Steps.{knownAt, stateNumber, linkAfter, Does, Tells}
 
 -- a test joined with one that holds
 pub and-rest : (t : Bool) → (t && true) ≡ t
 and-rest true = refl
 and-rest false = refl
 
--- ---- one link
+-- ---- the server and the link of a verb
 
-module _ (c : Channel) (k : ℕ) where
-  pub link-made :
-      (to : Bool) (w : Word) {x : Channel} → getD (c .whole) k false ≡ not to → x ≡ linkedTo c (set (c .whole) k to) →
-      Links c k to 15 w (record { verdict = Accepted; said = says.One w; channel = x })
-  unfolding choose
-  link-made true w e q = record { number = sym (other 15 e); told = λ z. refl; channel = λ z. q }
-  link-made false w e q = record { number = sym (chosen 15 e); told = λ z. refl; channel = λ z. q }
+-- a server to which nothing happens, whether a verb of its link is allowed or not
+nothing : (t : ℕ) (s : Server) (x : Bool) → s ≡ after t s (choose x event.Nothing event.Nothing)
+unfolding choose after
+nothing t s true = refl
+nothing t s false = refl
 
-  pub link-not :
-      (to : Bool) (w : Word) {r : Deed} → getD (c .whole) k false ≡ to → r ≡ record { verdict = Refused Link; said = says.Nothing; channel = c } → Links c k to 15 w r
-  unfolding choose
-  link-not true w e q = rw q (record { number = sym (chosen 0 e); told = λ z. never Link z; channel = λ z. never Link z })
-  link-not false w e q = rw q (record { number = sym (other 0 e); told = λ z. never Link z; channel = λ z. never Link z })
+swapped : (w : Bool) (x y : ℕ) → choose (not w) x y ≡ choose w y x
+unfolding choose
+swapped true x y = refl
+swapped false x y = refl
+
+module _ {t b : ℕ} {s : Server} {n : Verdict} where
+  pub cut-does : {w : Bool} → ofVerdict n ≡ choose w 0 15 → Does t Cut b s w (record { verdict = n; said = says.One word.Cut; server = s; link = false })
+  unfolding verbHappens
+  cut-does e = record { number = e; told = refl; server = nothing t s _; link = refl }
+
+  pub mend-does : (w : Bool) → ofVerdict n ≡ choose (not w) 0 15 → Does t Mend b s w (record { verdict = n; said = says.One word.Mended; server = s; link = true })
+  unfolding verbHappens
+  mend-does w e = record { number = e ∙ swapped w 0 15; told = refl; server = nothing t s _; link = refl }
+
+-- the variants of the verbs of a server, by their numbers
+abbrev servers-verbs : List ℕ
+servers-verbs = 0 ∷ 1 ∷ 2 ∷ 3 ∷ 4 ∷ 5 ∷ []
+
+pub others-do :
+    {t b : ℕ} {s : Server} {w : Bool} (v : Verb) {r : Deed} → OneOf servers-verbs (tagOf the-type v) → ofVerdict (r .verdict) ≡ verbAnswer v b s .number →
+    r .said ≡ said (verbHappens v b (verbAnswer v b s)) → r .server ≡ after t s (verbHappens v b (verbAnswer v b s)) → r .link ≡ w → Does t v b s w r
+others-do Start h n e s l = record { number = n; told = e; server = s; link = l }
+others-do Ready h n e s l = record { number = n; told = e; server = s; link = l }
+others-do Unready h n e s l = record { number = n; told = e; server = s; link = l }
+others-do Pass h n e s l = record { number = n; told = e; server = s; link = l }
+others-do Crash h n e s l = record { number = n; told = e; server = s; link = l }
+others-do Restart h n e s l = record { number = n; told = e; server = s; link = l }
+others-do Cut h n e s l = absurd (miss servers-verbs 6 tt h)
+others-do Mend h n e s l = absurd (miss servers-verbs 7 tt h)
+
+-- ---- lines said once
+
+module _ (c : State) (o : Outcome) {d : List ℕ} where
+  -- what a call gives, but for the channel
+  pub told : {v : Verdict} {n : ℕ} {x : State} {d′ : List ℕ} → Gives c o d v n x d′ → Gives c o d v n (channelIn c o (length d)) d′
+  told g = record { number = g .number; written = g .written; channel = refl; slice = g .slice }
+
+  module _ {d′ : List ℕ} {r : ℕ} (e : o .number ≡ 0) (q : Says true d 0 (o .lines) r d′) where
+    pub told-short : length d < r → Gives c o d (Refused Short) 0 (channelIn c o (length d)) d′
+    told-short h =
+        let long = beyond (says-out q) h in
+        rw (q .slice ∙ other _ (lt-leb (0 + length (o .lines)) (length d) (omega (arith, long)))) (told (gives-not c o d Short (is-short o (length d) e long)))
+
+    pub told-all : r ≤ length d → Gives c o d Accepted r (channelIn c o (length d)) d′
+    told-all h =
+        let fit = within (says-out q) h in
+        told (gives-so c o d (is-long o (length d) e (fit .0)) (fit .1) refl (says-out q .is refl (omega (arith, fit .0))))
+
+  -- the channel by the verdict
+  module _ {v : Verdict} {n : ℕ} {d′ : List ℕ} (g : Gives c o d v n (channelIn c o (length d)) d′) where
+    as-allowed : {x : State} → v ≡ Accepted → (o .number ≡ 0 → o .channel ≡ x) → Gives c o d v n x d′
+    unfolding numberIn channelIn
+    as-allowed h f =
+        let z : numberIn o (length d) ≡ 0 = sym (g .number) ∙ ap ofVerdict h in
+        let none = on (tested (eqb (o .number) 0)) (λ t. eqb-true _ _ t) (λ t. sym (other _ t) ∙ z) in
+        record { number = g .number; written = g .written; channel = sym (chosen _ (eq-eqb _ 0 z) ∙ f none); slice = g .slice }
+
+    as-refused : {x : State} {k : Refusal} → v ≡ Refused k → x ≡ c → Gives c o d v n x d′
+    unfolding channelIn
+    as-refused {x} {k} h f =
+        let z : numberIn o (length d) ≡ numberOf k = sym (g .number) ∙ ap ofVerdict h in
+        record { number = g .number; written = g .written; channel = f ∙ sym (other _ (ne-eqb (numberIn o (length d)) 0 (λ y. omega (arith, number-some k)))); slice = g .slice }
+
+-- ---- the whole verb
+
+state-same :
+    (c : State) (v : Verb) (a b : ℕ) {i j : ℕ} → i ≡ placeOf c a → (paired v ≡ true → j ≡ placeOf c b) →
+    stateNumber v b (place c i) (whole c i j) ≡ stateRefusal c v a b
+unfolding stateRefusal
+state-same c Start a b p q = ap (λ (x : ℕ). verbAnswer Start b (place c x) .number) p
+state-same c Ready a b p q = ap (λ (x : ℕ). verbAnswer Ready b (place c x) .number) p
+state-same c Unready a b p q = ap (λ (x : ℕ). verbAnswer Unready b (place c x) .number) p
+state-same c Pass a b p q = ap (λ (x : ℕ). verbAnswer Pass b (place c x) .number) p
+state-same c Crash a b p q = ap (λ (x : ℕ). verbAnswer Crash b (place c x) .number) p
+state-same c Restart a b p q = ap (λ (x : ℕ). verbAnswer Restart b (place c x) .number) p
+state-same c Cut a b p q = ap₂ (λ (x y : ℕ). choose (whole c x y) 0 15) p (q refl)
+state-same c Mend a b p q = ap₂ (λ (x y : ℕ). choose (whole c x y) 15 0) p (q refl)
+
+links-same :
+    (c : State) (v : Verb) (a b : ℕ) {i j : ℕ} → i ≡ placeOf c a → (paired v ≡ true → j ≡ placeOf c b) →
+    set (c .whole) (linkOf i j) (linkAfter v (whole c i j)) ≡ linksAfter v (linkOf (placeOf c a) (placeOf c b)) (c .whole)
+links-same c Start a b p q = set-getD (c .whole) _ false
+links-same c Ready a b p q = set-getD (c .whole) _ false
+links-same c Unready a b p q = set-getD (c .whole) _ false
+links-same c Pass a b p q = set-getD (c .whole) _ false
+links-same c Crash a b p q = set-getD (c .whole) _ false
+links-same c Restart a b p q = set-getD (c .whole) _ false
+links-same c Cut a b p q = ap₂ (λ (x y : ℕ). set (c .whole) (linkOf x y) false) p (q refl)
+links-same c Mend a b p q = ap₂ (λ (x y : ℕ). set (c .whole) (linkOf x y) true) p (q refl)
+
+-- the state with another server at place i and another link from there to place j, and with both taken back
+abbrev pub put : State → ℕ → ℕ → Server → Bool → State
+put c i j s w = record { frame = c .frame; period = c .period; servers = set (c .servers) i s; whole = set (c .whole) (linkOf i j) w }
+
+put-back : (c : State) (i j : ℕ) (s : Server) (w : Bool) → put (put c i j s w) i j (place c i) (whole c i j) ≡ c
+put-back c i j s w =
+    ap₂ (λ (l : List Server) (m : List Bool). record { frame = c .frame; period = c .period; servers = l; whole = m })
+    (set-set (c .servers) i s _ ∙ set-getD (c .servers) i absent) (set-set (c .whole) (linkOf i j) w _ ∙ set-getD (c .whole) (linkOf i j) false)
+
+-- x and y are the places of the identities, the second where the verb has one
+module _ (c : State) (v : Verb) (a b : ℕ) {x y : ℕ} (p : x ≡ placeOf c a) (q : y ≡ choose (paired v) (placeOf c b) 0) where
+  known-by : knownAt v a b x y ≡ known c v a b
+  unfolding known choose
+  known-by = ap₂ (λ (x y : ℕ). knownAt v a b x y) p q ∙ ap (λ (t : Bool). ltb (placeOf c a) most && t) (by (paired v))
+    where
+      by : (t : Bool) → choose t (ltb (choose t (placeOf c b) 0) most && not (eqb a b)) true ≡ choose t (ltb (placeOf c b) most && not (eqb a b)) true
+      by true = refl
+      by false = refl
+
+  module _ (e : known c v a b ≡ true) where
+    first-at : x % most ≡ placeOf c a
+    unfolding known
+    first-at = ap (λ (n : ℕ). n % most) p ∙ mod-eq-of-lt (ltb-true _ _ (fst-true (ltb (placeOf c a) most) _ e))
+
+    second-at : paired v ≡ true → y % most ≡ placeOf c b
+    unfolding known
+    second-at t =
+        ap (λ (n : ℕ). n % most) (q ∙ chosen 0 t)
+        ∙ mod-eq-of-lt (ltb-true _ _ (fst-true (ltb (placeOf c b) most) _ (sym (chosen true t) ∙ snd-true (ltb (placeOf c a) most) _ e)))
+
+  -- a verb without a number has its identities in the table
+  has-places : verbRefusal c v a b ≡ 0 → known c v a b ≡ true
+  unfolding verbRefusal
+  has-places z =
+      let r = not-first (λ (n : ℕ). n ≡ 0) (namesNobody v a b) z (λ h. omega arith) .1 in
+      on (tested (known c v a b)) (λ e. e) (λ e. absurd (let k : 8 ≡ 0 = sym (other _ e) ∙ r in omega arith))
+
+  judged :
+      {n : ℕ} → n ≡ stateNumber v b (place c (x % most)) (whole c (x % most) (y % most)) →
+      verbRefusal c v a b ≡ choose (namesNobody v a b) 2 (choose (knownAt v a b x y) n 8)
+  unfolding verbRefusal
+  judged {n} m =
+      ap (λ (k : ℕ). choose (namesNobody v a b) 2 k)
+      (on (tested (known c v a b))
+      (λ e. chosen _ e ∙ sym (chosen 8 (known-by ∙ e) ∙ m ∙ state-same c v a b (first-at e) (second-at e)))
+      (λ e. other _ e ∙ sym (other n (known-by ∙ e))))
+
+  module _ {d d′ : List ℕ} {n : ℕ} {e : Deed} {r : Told} (w : Does (c .frame) v b (place c (x % most)) (whole c (x % most) (y % most)) e)
+      (m : n ≡ choose (namesNobody v a b) 2 (choose (knownAt v a b x y) (ofVerdict (e .verdict)) 8))
+      (g : Tells n (linesOf (c .frame) a (e .said)) d r d′) where
+    gives : Gives c (verbOutcome c v a b) d (r .verdict) (r .written) (channelIn c (verbOutcome c v a b) (length d)) d′
+    gives =
+        let number : verbRefusal c v a b ≡ n = judged (w .number) ∙ sym m in
+        g c (verbOutcome c v a b) number
+        (λ z.
+        ap (λ (h : ℕ). linesOf (c .frame) a (verbSaid v (verbHappens v b (verbAnswer v b (place c h))))) (sym (first-at (has-places (number ∙ z))))
+        ∙ sym (ap (linesOf (c .frame) a) (w .told)))
+
+    pub verb-allowed : r .verdict ≡ Accepted → Gives c (verbOutcome c v a b) d (r .verdict) (r .written) (put c (x % most) (y % most) (e .server) (e .link)) d′
+    unfolding did
+    verb-allowed h =
+        as-allowed c (verbOutcome c v a b) gives h
+        (λ z.
+        let k = has-places z in
+        let l = first-at k in
+        sym (ap₂ (λ (u : List Server) (t : List Bool). record { frame = c .frame; period = c .period; servers = u; whole = t })
+        (ap (set (c .servers) (x % most)) (w .server) ∙ ap (λ (i : ℕ). set (c .servers) i (after (c .frame) (place c i) (verbHappens v b (verbAnswer v b (place c i))))) l)
+        (ap (set (c .whole) (linkOf (x % most) (y % most))) (w .link) ∙ links-same c v a b l (second-at k))))
+
+    pub verb-refused :
+        {k : Refusal} → r .verdict ≡ Refused k →
+        Gives c (verbOutcome c v a b) d (r .verdict) (r .written) (put (put c (x % most) (y % most) (e .server) (e .link)) (x % most) (y % most) (place c (x % most)) (whole c (x % most) (y % most))) d′
+    verb-refused h = as-refused c (verbOutcome c v a b) gives h (put-back c (x % most) (y % most) (e .server) (e .link))

@@ -1,15 +1,2 @@
-pub mod Tables
-pub mod Opening
-pub mod Writing
-pub mod Hearings
-pub mod Lookup
-pub mod Frames
-pub mod Quiet
-pub mod Playing
-pub mod Answering
 pub mod Acting
-pub mod Places
-pub mod Next
-pub mod Senders
-pub mod Inbox
-pub mod Laws
+pub mod Answering

@@ -1,37 +1,30 @@
--- What the calls answer.
+-- What the calls of a channel answer: what is said of its state, over the struct that has the calls.
 use mathlib.Core.Path.{_≡_}
 use mathlib.Core.List.{List}
-use Prim.Native.Nat.{ℕ}
+use Prim.Native.Nat.{ℕ, _-_}
 use lib.Dec.{eqb}
-use lib.ListN.{length}
 use Rattle.lists.specs.Choice.{choose}
 use Rattle.refusal.specs.Answer.{ofVerdict}
-use Rattle.server.specs.Period.{leastPeriod}
-use Rattle.channel.specs.declared.Table.{Table}
+use Rattle.group.specs.declared.Table.{Table}
+use Rattle.group.specs.Table.{freshRefusal, fresh}
+use Rattle.group.specs.Outcome.{Outcome}
+use Rattle.group.specs.Answers.{noChannel, Gives}
 use Rattle.channel.specs.declared.Channel.{Channel}
-use Rattle.channel.specs.declared.Added.{Added}
 use Rattle.channel.specs.declared.Opened.{Opened}
 use Rattle.channel.specs.declared.Answer.{Answer}
-use Rattle.channel.specs.Outcome.{Outcome, numberIn, channelIn, writtenIn, sliceIn}
-use Rattle.channel.specs.Table.{empty, addRefusal, added, freshRefusal, fresh}
+use Rattle.channel.specs.declared.Within.{Within}
 
--- adding a server of identity i and priority p to the table t
-pub record Adds (t : Table) (i p : ℕ) (r : Added) : Type 0 where
-  pub number : ofVerdict (r .verdict) ≡ addRefusal t i
-  pub table : r .table ≡ added t i p
-
--- what stands where no channel was opened: one with no server. Document 01 leaves this free
-abbrev pub closed : Channel
-closed = fresh empty leastPeriod
-
--- the fresh channel of the table t with the period n
+-- the fresh channel of the table t with the period n, or `noChannel`, which document 01 leaves free, where it is refused
 pub record Opens (t : Table) (n : ℕ) (r : Opened) : Type 0 where
   pub number : ofVerdict (r .verdict) ≡ freshRefusal t n
-  pub channel : r .channel ≡ choose (eqb (freshRefusal t n) 0) (fresh t n) closed
+  pub channel : r .channel .state ≡ choose (eqb (freshRefusal t n) 0) (fresh t n) noChannel
 
--- a call on the channel c with the lent slice d: its answer, and the slice afterwards
-pub record Answers (c : Channel) (o : Outcome) (d : List ℕ) (r : Answer) (d′ : List ℕ) : Type 0 where
-  pub number : ofVerdict (r .verdict) ≡ numberIn o (length d)
-  pub written : r .written ≡ writtenIn o (length d)
-  pub channel : r .channel ≡ channelIn c o (length d)
-  pub slice : d′ ≡ sliceIn o d
+-- a listed call on the channel c with the lent slice d: its answer, and the slice afterwards. `write_refused` hands back no channel, since it changes none, and
+-- writes the `refusedLine` of the crate lines
+abbrev pub Answers : Channel → Outcome → List ℕ → Answer → List ℕ → Type 0
+Answers c o d r d′ = Gives (c .state) o d (r .verdict) (r .written) (r .channel .state) d′
+
+-- the advance within a slice: its answer, and how many frames it made
+pub record AnswersWithin (c : Channel) (o : Outcome) (d : List ℕ) (r : Within) (d′ : List ℕ) : Type 0 where
+  pub answer : Gives (c .state) o d (r .verdict) (r .written) (r .channel .state) d′
+  pub frames : r .frames ≡ r .channel .state .frame - c .state .frame

@@ -1,11 +1,2 @@
-pub mod Outcome
-pub mod Table
-pub mod Lines
-pub mod Hearing
-pub mod Frame
-pub mod Verbs
-pub mod Advance
-pub mod Calls
 pub mod Answers
 pub mod Steps
-pub mod Laws

@@ -5,13 +5,13 @@ use Prim.Native.Nat.{ℕ, _-_}
 use lib.Dec.{ltb, leb, eqb}
 use Rattle.lists.specs.Choice.{choose}
 use Rattle.server.specs.declared.Verb.{Verb}
-use Rattle.channel.specs.declared.Channel.{Channel}
-use Rattle.channel.specs.declared.Table.{Table}
-use Rattle.channel.specs.Outcome.{Outcome}
-use Rattle.channel.specs.Table.{empty, addRefusal, added, freshRefusal, fresh}
-use Rattle.channel.specs.Lines.{line, refusedWord}
-use Rattle.channel.specs.Verbs.{known, verbOutcome}
-use Rattle.channel.specs.Advance.{advancedBy, linesBy}
+use Rattle.group.specs.declared.State.{State}
+use Rattle.group.specs.declared.Table.{Table}
+use Rattle.group.specs.Outcome.{Outcome}
+use Rattle.group.specs.Table.{empty, addRefusal, added, freshRefusal, fresh}
+use Rattle.lines.specs.Lines.{line, refusedWord}
+use Rattle.group.specs.Verbs.{known, verbOutcome}
+use Rattle.group.specs.Advance.{advancedBy, linesBy}
 use Rattle.day.specs.Read.{DayLine, wrong, period, server, entry, end}
 
 -- which lines have come
@@ -21,7 +21,7 @@ pub data Stage : Type 0 where
 -- until entries begin, the channel is the fresh channel of the table so far
 pub record Day : Type 0 where
   pub stage : Stage
-  pub channel : Channel
+  pub channel : State
 
 abbrev pub begin : Day
 begin = record { stage = atPeriod; channel = fresh empty 0 }
@@ -31,10 +31,10 @@ pub data Effect : Type 0 where
   stop : ℕ → Effect
   go : List ℕ → Day → Effect
 
-abbrev pub on : Stage → Channel → Day
+abbrev pub on : Stage → State → Day
 on g c = record { stage = g; channel = c }
 
-abbrev pub tableOf : Channel → Table
+abbrev pub tableOf : State → Table
 tableOf c = record { servers = c .servers }
 
 -- "A day: `period P`; one or more `server ..`; entries ..; `end time` .. is last". "4. A line out of its place"
@@ -45,23 +45,23 @@ periodEffect atEntries p = stop 4
 periodEffect atClose p = stop 4
 
 -- 5 and 6: "Identity already in the table.", "A seventeenth server"
-unfoldable pub addEffect : Channel → ℕ → ℕ → Effect
+unfoldable pub addEffect : State → ℕ → ℕ → Effect
 addEffect c i p =
     let n = addRefusal (tableOf c) i in
     choose (eqb n 0) (go [] (on atServers (fresh (added (tableOf c) i p) (c .period .frames)))) (stop n)
 
-abbrev pub serverEffect : Stage → Channel → ℕ → ℕ → Effect
+abbrev pub serverEffect : Stage → State → ℕ → ℕ → Effect
 serverEffect atPeriod c i p = stop 4
 serverEffect atServers c i p = addEffect c i p
 serverEffect atEntries c i p = stop 4
 serverEffect atClose c i p = stop 4
 
 -- "A state refusal prints with the present time and the entry's first identity (identity 0 for `end`) and the day goes on"
-abbrev pub refusal : Channel → ℕ → ℕ → List ℕ
+abbrev pub refusal : State → ℕ → ℕ → List ℕ
 refusal c i n = line (c .frame) i (refusedWord n)
 
 -- the entry's own call, on the channel that has come to its time: "12 to 15 after it"
-unfoldable pub callEffect : List ℕ → Channel → Verb → ℕ → ℕ → Effect
+unfoldable pub callEffect : List ℕ → State → Verb → ℕ → ℕ → Effect
 callEffect w c v a b =
     let o = verbOutcome c v a b in
     elim (eqb (o .number) 0) [
@@ -71,7 +71,7 @@ callEffect w c v a b =
 
 -- 8 is an input refusal, and such a line "advances nothing"; "11 is tested before that advance"; "Before an entry it advances to the
 -- entry's time"
-unfoldable pub entryEffect : Channel → ℕ → Verb → ℕ → ℕ → Effect
+unfoldable pub entryEffect : State → ℕ → Verb → ℕ → ℕ → Effect
 entryEffect c t v a b =
     elim (known c v a b) [
       | true ↦ elim (ltb t (c .frame)) [
@@ -82,7 +82,7 @@ entryEffect c t v a b =
     ]
 
 -- "`end time`, which advances to that time"; "a day whose `end` was refused still needs one"
-unfoldable pub endEffect : Channel → ℕ → Effect
+unfoldable pub endEffect : State → ℕ → Effect
 endEffect c t =
     elim (ltb t (c .frame)) [
       | true ↦ go (refusal c 0 11) (on atEntries c)
@@ -91,10 +91,10 @@ endEffect c t =
 
 -- "(but an entry or `end` straight after the lines before the servers is 6)"; "7 .. tested when entries or `end` begin". The period was tested
 -- when it was read
-unfoldable pub opening : Channel → Effect → Effect
+unfoldable pub opening : State → Effect → Effect
 opening c s = let n = freshRefusal (tableOf c) (c .period .frames) in elim (eqb n 0) [ true ↦ s | false ↦ stop n ]
 
-abbrev pub inPlace : Stage → Channel → Effect → Effect
+abbrev pub inPlace : Stage → State → Effect → Effect
 inPlace atPeriod c s = stop 4
 inPlace atServers c s = opening c s
 inPlace atEntries c s = s

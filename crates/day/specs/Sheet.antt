@@ -3,7 +3,7 @@ use mathlib.Core.List.{List, [], _∷_, _++_}
 use Prim.Native.Nat.{ℕ, suc}
 use Rattle.text.specs.Words.{bytes}
 use Rattle.text.specs.Digits.{digits}
-use Rattle.channel.specs.Lines.{refusedWord}
+use Rattle.lines.specs.Lines.{refusedWord}
 use Rattle.day.specs.Read.{linesIn, lineRead}
 use Rattle.day.specs.Day.{Stage, atPeriod, atServers, atEntries, atClose, Day, begin, Effect, stop, go, effectOf}
 

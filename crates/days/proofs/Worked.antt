@@ -24,12 +24,12 @@ use Rattle.server.specs.Server.{oneMore, sentBy, sentAny, after}
 use Rattle.server.specs.Hearing.{forThis, backupHears, prospectHears, primaryHears}
 use Rattle.server.specs.Timers.{afterSilent, afterBeating, afterRising}
 use Rattle.server.specs.Verbs.{from, enters, entering, verbHappens, verbAnswer}
-use Rattle.channel.specs.Table.{placeIn, standsBefore, enter, addRefusal, added, freshRefusal}
-use Rattle.channel.specs.Lines.{line, linesOf}
-use Rattle.channel.specs.Hearing.{hearsFrom, comes, nextAmong, nextSender, sendersAfter, sentByAll, inbox}
-use Rattle.channel.specs.Frame.{heardAll, heardLines, timedLines, hearing, turned, turnLines, turnsLines, advanced, frameLines}
-use Rattle.channel.specs.Verbs.{namesNobody, known, stateRefusal, verbRefusal, did}
-use Rattle.channel.specs.Advance.{advancedBy, linesBy}
+use Rattle.group.specs.Table.{placeIn, standsBefore, enter, addRefusal, added, freshRefusal}
+use Rattle.lines.specs.Lines.{line, linesOf}
+use Rattle.group.specs.Hearing.{hearsFrom, comes, nextAmong, nextSender, sendersAfter, sentByAll, inbox}
+use Rattle.group.specs.Frame.{heardAll, heardLines, timedLines, hearing, turned, turnLines, turnsLines, advanced, frameLines}
+use Rattle.group.specs.Verbs.{namesNobody, known, stateRefusal, verbRefusal, did}
+use Rattle.group.specs.Advance.{advancedBy, linesBy}
 use Rattle.day.specs.Read.{linesIn, whenGood, having, verbNamed, bodyRead, lineRead}
 use Rattle.day.specs.Day.{addEffect, callEffect, entryEffect, endEffect, opening, effectOf}
 use Rattle.day.specs.Sheet.{inputRefusal, sheetFrom, sheet}

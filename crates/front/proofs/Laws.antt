@@ -1,26 +1,44 @@
 -- The laws of specs/Laws.antt. Assumes nothing.
-use mathlib.Core.Bool.{Bool, true, false}
 use mathlib.Core.Path.{_≡_, refl, sym, ap, _∙_}
 use mathlib.Core.Logic.{inl, inr}
+use mathlib.Core.List.{List, [], _∷_}
 use Prim.Native.Nat.{ℕ}
 use native.Mathlib.Omega.{arith}
 use borrow.Author.Tests.{ne-eqb}
 use lib.Dec.{eqb}
+use lib.ListN.{getD}
 use Rattle.lists.specs.Choice.{choose}
-use Rattle.lists.proofs.Cases.{tested, chosen, other}
+use Rattle.lists.proofs.Cases.{tested, chosen, other, bit-back}
 use Rattle.refusal.specs.declared.Refusal.{Refusal}
 use Rattle.refusal.specs.Answer.{numberOf, ofVerdict}
 use Rattle.refusal.proofs.Answers.{number-some}
-use Rattle.server.specs.declared.Role.{Role}
-use Rattle.server.specs.declared.Role.the-variants.{Down, Idle, Sync, Backup, Prospect, Primary}
+use Rattle.heartbeat.specs.declared.Heartbeat.{Heartbeat}
+use Rattle.server.specs.declared.Role.the-variants.{Down}
 use Rattle.server.specs.declared.Event.{Event}
 use Rattle.server.specs.declared.Event.the-variants.{Nothing}
 use Rattle.server.specs.declared.Verb.{Verb}
 use Rattle.server.specs.Server.{after}
 use Rattle.server.specs.Verbs.{roleNumber, verbAnswer, verbHappens}
+use Rattle.server.proofs.Table.{roles, role-at}
 use Rattle.front.specs.declared.Front.{Front}
-use Rattle.front.specs.Front.{goesOn, happens, withServer}
-use Rattle.front.specs.Laws.{RefusedBeginStays, RefusedVerbStays, NumbersTell}
+use Rattle.front.specs.Front.{goesOn, risen, hearing, timing, happens, withServer}
+use Rattle.front.specs.Laws.{hearings, heardAll, FrameIsTheStep, RefusedBeginStays, RefusedVerbStays, NumbersTell}
+
+-- the hearings of a front are those of its server, in the present frame
+hearings-of : (f : Front) (hs : List Heartbeat) → hearings f hs ≡ withServer (heardAll (f .frame) (f .server) hs) f
+unfolding hearings heardAll
+hearings-of f [] = refl
+hearings-of f (h ∷ hs) = hearings-of (hearing f h .front) hs
+
+pub frame-is-the-step : FrameIsTheStep
+frame-is-the-step f f₁ f₂ hs r begins ticks =
+    elim (tested (goesOn f)) [
+      | inl e ↦
+          ticks .front
+          ∙ ap (λ (g : Front). timing (hearings g hs) .front) (begins .front ∙ chosen _ e)
+          ∙ ap (λ (g : Front). timing g .front) (hearings-of (risen f) hs)
+      | inr e ↦ absurd (omega (arith, begins .number ∙ other _ e))
+    ]
 
 pub refused-begin-stays : RefusedBeginStays
 refused-begin-stays f f′ k b =
@@ -41,32 +59,14 @@ refused-verb-stays v b f f′ r k e acts =
     let same : f′ ≡ f = acts .front ∙ ap (λ (x : Event). withServer (after (f .frame) (f .server) x) f) none in
     (same, (acts .event ∙ none, acts .role ∙ ap (λ (g : Front). g .server .role) same))
 
--- a role, from its number
-roleOf : ℕ → Role
-roleOf n = choose (eqb n 0) Down (choose (eqb n 1) Idle (choose (eqb n 2) Sync (choose (eqb n 3) Backup (choose (eqb n 4) Prospect Primary))))
-
-role-back : (r : Role) → roleOf (roleNumber r) ≡ r
-unfolding choose roleOf
-role-back Down = refl
-role-back Idle = refl
-role-back Sync = refl
-role-back Backup = refl
-role-back Prospect = refl
-role-back Primary = refl
-
-flag-back : (b : Bool) → eqb (choose b 1 0) 1 ≡ b
-unfolding choose
-flag-back true = refl
-flag-back false = refl
-
 pub numbers-tell : NumbersTell
 numbers-tell f g e =
     let s = f .server in
     let t = g .server in
-    let roles : roleNumber (s .role) ≡ roleNumber (t .role) = cc in
+    let numbers : roleNumber (s .role) ≡ roleNumber (t .role) = cc in
     let flags : _≡_ {A = ℕ} (choose (s .reveal) 1 0) (choose (t .reveal) 1 0) = cc in
-    let role : s .role ≡ t .role = sym (role-back (s .role)) ∙ ap roleOf roles ∙ role-back (t .role) in
-    let reveal : s .reveal ≡ t .reveal = sym (flag-back (s .reveal)) ∙ ap (λ (n : ℕ). eqb n 1) flags ∙ flag-back (t .reveal) in
+    let role : s .role ≡ t .role = sym (role-at (s .role)) ∙ ap (λ (n : ℕ). getD roles n Down) numbers ∙ role-at (t .role) in
+    let reveal : s .reveal ≡ t .reveal = sym (bit-back (s .reveal)) ∙ ap (λ (n : ℕ). eqb n 1) flags ∙ bit-back (t .reveal) in
     let identity : s .identity ≡ t .identity = cc in
     let priority : s .priority ≡ t .priority = cc in
     let silence : s .silence ≡ t .silence = cc in

@@ -1,13 +1,38 @@
 -- Laws of the front, as statements. proofs/Laws.antt proves them.
 use mathlib.Core.Path.{_≡_}
-use Prim.Native.Nat.{ℕ}
+use mathlib.Core.List.{List, [], _∷_}
+use Prim.Native.Nat.{ℕ, _+_}
 use Rattle.refusal.specs.declared.Refusal.{Refusal}
-use Rattle.refusal.specs.declared.Verdict.the-variants.{Refused}
+use Rattle.refusal.specs.declared.Verdict.the-variants.{Accepted, Refused}
+use Rattle.heartbeat.specs.declared.Heartbeat.{Heartbeat}
 use Rattle.server.specs.declared.Event.the-variants.{Nothing}
 use Rattle.server.specs.declared.Verb.{Verb}
+use Rattle.server.specs.declared.Server.{Server}
+use Rattle.server.specs.Server.{cleared}
+use Rattle.server.specs.Hearing.{heard}
+use Rattle.server.specs.Timers.{timed}
 use Rattle.front.specs.declared.Front.{Front}
+use Rattle.front.specs.declared.TimedNow.{TimedNow}
 use Rattle.front.specs.declared.ActedNow.{ActedNow}
-use Rattle.front.specs.Front.{frontNumbers, FrontBegins, FrontActs}
+use Rattle.front.specs.Front.{frontNumbers, FrontBegins, hearing, FrontTicks, FrontActs}
+
+-- `hear` of each heartbeat, one after the other: the front after it
+unfoldable pub hearings : Front → List Heartbeat → Front
+hearings f [] = f
+hearings f (h ∷ hs) = hearings (hearing f h .front) hs
+
+-- hearing in frame t, one heartbeat at a time: the server after it
+unfoldable pub heardAll : ℕ → Server → List Heartbeat → Server
+heardAll t s [] = s
+heardAll t s (h ∷ hs) = heardAll t (heard t s h .server) hs
+
+-- "a thin front over the step above": `begin`, a `hear` for each heartbeat, and `tick` are the step of one server in the next frame, "the frame number rises by 1;
+-- then, .. hearing and timers". The heartbeats may be any, in any order: who hears what is the channel's
+abbrev pub FrameIsTheStep : Type 0
+FrameIsTheStep =
+    (f f₁ f₂ : Front) (hs : List Heartbeat) (r : TimedNow) → FrontBegins f Accepted f₁ → FrontTicks (hearings f₁ hs) r f₂ →
+    let t = f .frame + 1 in
+    f₂ ≡ record { server = timed t (f .period) (heardAll t (cleared (f .server)) hs) .server; frame = t; period = f .period }
 
 -- a refused step changes nothing: the same front
 abbrev pub RefusedBeginStays : Type 0

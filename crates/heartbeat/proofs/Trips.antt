@@ -2,24 +2,23 @@
 use mathlib.Core.Bool.{true, not}
 use mathlib.Core.Path.{_≡_, refl, sym, ap, _∙_}
 use mathlib.Core.List.{List, [], _∷_, _++_, append-assoc}
-use mathlib.Core.Logic.{⊎-elim}
 use Prim.Native.Nat.{ℕ, suc, _+_, _<_, _≤_}
 use native.Mathlib.Omega.{arith}
-use borrow.Author.Tests.{leb-true, le-leb, eq-eqb, ne-eqb}
-use lib.Dec.{leb, eqb, lit<}
+use borrow.Author.Tests.{le-leb, eq-eqb, ne-eqb}
+use lib.Dec.{eqb, lit<}
 use lib.ListN.{length, take, length-append}
 use native.Mathlib.Numerals.{add-one}
 use lib.Seq.{take-append-seam}
 use Rattle.lists.specs.Choice.{choose}
 use Rattle.lists.specs.Lists.{upTo}
-use Rattle.lists.proofs.Cases.{tested, chosen, other, and-true, fst-true}
+use Rattle.lists.proofs.Cases.{chosen, and-true, bit-small}
 use Rattle.lists.proofs.Clear.{Clear, clear-append, all-weaker, upTo-clear, split-clear, split-whole}
 use Rattle.refusal.specs.Answer.{Answer, accepted, inTurn}
 use Rattle.text.specs.Words.{bytes}
 use Rattle.text.specs.Digits.{digits}
 use Rattle.text.specs.Number.{isDigit}
 use Rattle.text.specs.Line.{readLine, fields}
-use Rattle.text.proofs.Digits.{digits-few}
+use Rattle.text.proofs.Digits.{digits-few, digit-least}
 use Rattle.text.proofs.Trips.{all-digits, number-reads-back}
 use Rattle.heartbeat.specs.declared.Heartbeat.{Heartbeat}
 use Rattle.heartbeat.specs.Heartbeat.{isSet, readFields, readBody, readHeartbeat, revealWritten, heartbeatLine}
@@ -31,7 +30,7 @@ digits-clear c n h =
     record {
       none =
           all-weaker isDigit (λ x. not (eqb x c))
-          (λ x d. ap not (ne-eqb x c (apart x (leb-true 48 x (fst-true (leb 48 x) (leb x 57) d)))))
+          (λ x d. ap not (ne-eqb x c (apart x (digit-least x d))))
           (digits n)
           (all-digits n);
     }
@@ -114,13 +113,6 @@ module _ (i j k l : ℕ) (hi : i ≤ 65535) (hj : j ≤ 255) (lk : 1 ≤ k) (hk 
       ∙ ap readBody (ap (λ (n : ℕ). take n (line ++ bytes "\n")) end ∙ take-append-seam line (bytes "\n"))
       ∙ body-read
 
-reveal-small : (n : ℕ) → revealWritten n ≤ 1
-reveal-small n =
-    ⊎-elim
-    (λ t. omega (arith, chosen {A = ℕ} {a = 1} 0 t))
-    (λ t. omega (arith, other {A = ℕ} {b = 0} 1 t))
-    (tested (isSet n))
-
 pub heartbeat-reads-back : HeartbeatReadsBack
 unfolding heartbeatLine
-heartbeat-reads-back h a b c d = all-read (h .bs) (h .priority) (h .tiebreaker) (revealWritten (h .reveal)) a b c d (reveal-small (h .reveal))
+heartbeat-reads-back h a b c d = all-read (h .bs) (h .priority) (h .tiebreaker) (revealWritten (h .reveal)) a b c d (bit-small (isSet (h .reveal)))

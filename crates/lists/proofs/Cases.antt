@@ -66,6 +66,17 @@ unfolding choose
 same-choice true a = refl
 same-choice false a = refl
 
+-- a test as a number: at most 1, and it tells the test
+pub bit-small : (t : Bool) → choose t 1 0 ≤ 1
+unfolding choose
+bit-small true = omega arith
+bit-small false = omega arith
+
+pub bit-back : (t : Bool) → eqb (choose t 1 0) 1 ≡ t
+unfolding choose
+bit-back true = refl
+bit-back false = refl
+
 -- both tests hold, or one of them fails
 pub and-true : {a b : Bool} → a ≡ true → b ≡ true → (a && b) ≡ true
 and-true {a} {b} e h = rw e h

@@ -1,9 +1,10 @@
 -- A loop that replaces each of the n elements of l by what f says of its place and of it, one a turn. Assumes nothing.
-use mathlib.Core.Path.{_≡_, refl, sym, ap, _∙_}
+use mathlib.Core.Path.{_≡_, refl, sym, ap, ap₂, _∙_}
 use mathlib.Core.List.{List, [], _∷_, _++_}
 use Prim.Native.Nat.{ℕ, zero, suc, _+_, _<_, _≤_}
 use native.Mathlib.Nat.{not-suc-le-zero, le-of-suc-le-suc, add-zero, zero-add, add-suc, suc-add}
 use native.Mathlib.Numerals.{add-one}
+use native.Mathlib.Omega.{arith}
 use lib.ListN.{length, take, drop, set, getD}
 use Rattle.lists.specs.Lists.{mapFrom}
 
@@ -25,6 +26,21 @@ module _ {A : Type 0} (f : ℕ → A → A) where
   full (x ∷ l) k zero h = absurd (not-suc-le-zero h)
   full (x ∷ l) k (suc i) h = ap (λ (t : List A). f k x ∷ t) (full l (suc k) i (le-of-suc-le-suc h))
 
+  still : (l : List A) (k i : ℕ) (d : A) → i < length l → getD (replaced k i l) i d ≡ getD l i d
+  still [] k i d h = absurd (not-suc-le-zero h)
+  still (x ∷ l) k zero d h = refl
+  still (x ∷ l) k (suc i) d h = still l (suc k) i d (le-of-suc-le-suc h)
+
+  rest : (l : List A) (k i : ℕ) (d : A) → ((j : ℕ) → i ≤ j → j < length l → f (k + j) (getD l j d) ≡ getD l j d) → replaced k i l ≡ mapFrom k f l
+  rest [] k zero d h = refl
+  rest [] k (suc i) d h = refl
+  rest (x ∷ l) k zero d h =
+      ap₂ (λ (y : A) (t : List A). y ∷ t) (sym (h 0 (omega arith) (omega arith)) ∙ ap (λ (n : ℕ). f n x) (add-zero k))
+      (rest l (suc k) zero d (λ j a b. ap (λ (n : ℕ). f n (getD l j d)) (suc-add k j ∙ sym (add-suc k j)) ∙ h (suc j) (omega arith) (omega arith)))
+  rest (x ∷ l) k (suc i) d h =
+      ap (λ (t : List A). f k x ∷ t)
+      (rest l (suc k) i d (λ j a b. ap (λ (n : ℕ). f n (getD l j d)) (suc-add k j ∙ sym (add-suc k j)) ∙ h (suc j) (omega arith) (omega arith)))
+
 -- m is l with its first i elements replaced
 pub record Mapped {A : Type 0} (f : ℕ → A → A) (l : List A) (n i : ℕ) (m : List A) : Type 0 where
   pub long : length l ≡ n
@@ -45,3 +61,11 @@ module _ {A : Type 0} {f : ℕ → A → A} where
 
   pub end : {l m : List A} {n i : ℕ} → Mapped f l n i m → n ≤ i → m ≡ mapFrom 0 f l
   end {l} {m} {n} {i} v h = v .so-far ∙ full f l 0 i (rw (v .long) h)
+
+  -- what is not replaced yet is as it was
+  pub ahead : {l m : List A} {n i : ℕ} (d : A) → Mapped f l n i m → i < n → getD m i d ≡ getD l i d
+  ahead {l} {m} {n} {i} d v h = ap (λ (x : List A). getD x i d) (v .so-far) ∙ still f l 0 i d (rw (v .long) h)
+
+  -- the loop may end early where f changes none of the rest
+  pub end-early : {l m : List A} {n i : ℕ} (d : A) → Mapped f l n i m → ((k : ℕ) → i ≤ k → k < n → f k (getD l k d) ≡ getD l k d) → m ≡ mapFrom 0 f l
+  end-early {l} {m} {n} {i} d v h = v .so-far ∙ rest f l 0 i d (λ k a b. ap (λ (x : ℕ). f x (getD l k d)) (zero-add k) ∙ h k a (rw (v .long) at b))

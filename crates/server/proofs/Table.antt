@@ -18,7 +18,8 @@ use Rattle.server.specs.declared.Verb.{Verb}
 use Rattle.server.specs.declared.Verb.the-variants.{Start, Ready, Unready, Pass, Crash, Restart, Cut, Mend}
 use Rattle.server.specs.Verbs.{roleNumber, verbNumber, from, enters, cell, ofCell}
 
-abbrev roles : List Role
+-- the roles in the order of their numbers
+abbrev pub roles : List Role
 roles = Down ∷ Idle ∷ Sync ∷ Backup ∷ Prospect ∷ Primary ∷ []
 
 abbrev verbs : List Verb
@@ -56,7 +57,7 @@ verb-below Restart = lit< tt
 verb-below Cut = lit< tt
 verb-below Mend = lit< tt
 
-role-at : (r : Role) → getD roles (roleNumber r) Down ≡ r
+pub role-at : (r : Role) → getD roles (roleNumber r) Down ≡ r
 role-at Down = refl
 role-at Idle = refl
 role-at Sync = refl

@@ -35,7 +35,7 @@ inRoleOf a b = eqb (roleNumber a) (roleNumber b)
 unfoldable pub from : Role → Role → Role → Answer
 from a b r = choose (inRoleOf r Down) (refused 12) (choose (inRoleOf r a) (accepted (roleNumber b ∷ [])) (refused 14))
 
--- what a verb makes of a server in the role r: the role that it enters, or a refusal
+-- what a verb makes of a server in the role r: the role that it enters, or keeps by `cut` and `mend`, or a refusal
 unfoldable pub enters : Verb → Role → Answer
 -- "`start`: idle to sync. `ready`: sync to backup .. `unready`: backup to sync."
 enters Start r = from Idle Sync r
@@ -82,7 +82,8 @@ unfoldable pub verbHappens : Verb → ℕ → Answer → Event
 verbHappens v b a = choose (eqb (a .number) 0) (verbEvent v b (getD (a .values) 0 0)) Nothing
 
 -- What a verb gets from one server: 2 for an identity 0, the second or the server's own (an empty place, which document 01 leaves
--- free); 8 for "both identities the same"; then what its role allows.
+-- free); 8 for "both identities the same"; then what its role allows. One server knows neither the table (8 for an identity not in it) nor the links
+-- (15): the channel has those.
 unfoldable pub verbAnswer : Verb → ℕ → Server → Answer
 verbAnswer v b s =
     choose (eqb (s .identity) 0 || (paired v && eqb b 0)) (refused 2)

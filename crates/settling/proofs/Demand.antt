@@ -9,47 +9,46 @@ use borrow.Author.Tests.{eq-eqb}
 use lib.Dec.{eqb}
 use lib.ListN.{length, getD-replicate}
 use Rattle.lists.proofs.Cases.{chosen, fst-true, snd-true, on, clash}
-use Rattle.heartbeat.specs.declared.Rank.{Rank}
 use Rattle.server.specs.declared.Period.{Period}
 use Rattle.server.specs.Period.{silenceLimit, prospectLimit}
-use Rattle.channel.specs.declared.Table.{Table}
-use Rattle.channel.specs.declared.Channel.{Channel}
-use Rattle.channel.specs.Outcome.{numberIn}
-use Rattle.channel.specs.Table.{most, empty, added, fresh}
-use Rattle.channel.specs.Hearing.{place, linkOf}
-use Rattle.channel.specs.Frame.{advanced}
-use Rattle.channel.specs.Advance.{advancedBy}
-use Rattle.channel.specs.Calls.{Call, verb, advance, advanceTo, outcomeOf, sliceOf, callNumber, callChannel, channelAfter}
-use Rattle.channel.proofs.Laws.{nothing-else-changes}
+use Rattle.group.specs.declared.State.{State}
+use Rattle.group.specs.Outcome.{numberIn}
+use Rattle.group.specs.Table.{most, tableOf, fresh}
+use Rattle.group.specs.Hearing.{place, linkOf}
+use Rattle.group.specs.Frame.{advanced}
+use Rattle.group.specs.Advance.{advancedBy}
+use Rattle.group.specs.Calls.{Call, verb, advance, advanceTo, outcomeOf, sliceOf, callNumber, callChannel, channelAfter}
+use Rattle.group.proofs.Laws.{every-call-keeps-the-table}
+use Rattle.group.proofs.Made.{neat-table}
 use Rattle.traces.specs.Settling.{Settled}
-use Rattle.settling.specs.Demand.{withServers, tableOf, refusedIfVerb, verbsRefused, settlingTime, Led, Settles, DemandThree}
+use Rattle.settling.specs.Demand.{refusedIfVerb, verbsRefused, settlingTime, Led, Settles, DemandThree}
 use Rattle.settling.specs.Whole.{LinksAreAsCut}
 use Rattle.settling.proofs.Sound.{Sound, AllWhole}
 use Rattle.settling.proofs.Run.{runs, traceOf, frame-run, rank-run}
 use Rattle.settling.proofs.Instance.{channel-settles}
-use Rattle.settling.proofs.Made.{Neat, neat-empty, neat-added, sound-fresh}
+use Rattle.settling.proofs.Made.{sound-fresh}
 use Rattle.settling.proofs.Reached.{handed, sound-after}
 use Rattle.settling.proofs.Links.{links-after}
 
 -- ---- calls that only count frames
 
-runs-more : (m n : ℕ) (c : Channel) → runs m (runs n c) ≡ runs (m + n) c
+runs-more : (m n : ℕ) (c : State) → runs m (runs n c) ≡ runs (m + n) c
 unfolding runs
 runs-more zero n c = ap (λ (k : ℕ). runs k c) (let e : n ≡ 0 + n = omega arith in e)
 runs-more (suc m) n c = ap advanced (runs-more m n c) ∙ ap (λ (k : ℕ). runs k c) (let e : suc (m + n) ≡ suc m + n = omega arith in e)
 
 -- to advance by n is to run n frames
-pub by-runs : (n : ℕ) (c : Channel) → advancedBy n c ≡ runs n c
+pub by-runs : (n : ℕ) (c : State) → advancedBy n c ≡ runs n c
 unfolding advancedBy runs
 by-runs zero c = refl
 by-runs (suc n) c = by-runs n (advanced c) ∙ runs-more n 1 c ∙ ap (λ (k : ℕ). runs k c) (let e : n + 1 ≡ suc n = omega arith in e)
 
-accepted-verb : (c : Channel) (k : Call) → numberIn (outcomeOf c k) (length (sliceOf k)) ≡ 0 → eqb (callNumber c k) 0 ≡ true
+accepted-verb : (c : State) (k : Call) → numberIn (outcomeOf c k) (length (sliceOf k)) ≡ 0 → eqb (callNumber c k) 0 ≡ true
 unfolding callNumber
 accepted-verb c k z = eq-eqb (numberIn (outcomeOf c k) (length (sliceOf k))) 0 z
 
 -- the frames that a call counts, if it is no accepted verb
-one-call : (c : Channel) (k : Call) → refusedIfVerb c k ≡ true → (m : ℕ) × (callChannel c k ≡ runs m c)
+one-call : (c : State) (k : Call) → refusedIfVerb c k ≡ true → (m : ℕ) × (callChannel c k ≡ runs m c)
 unfolding runs
 one-call c k e = on (handed c k) (λ r. taken k e (r .0) (r .1)) (λ r. (0, r .1))
   where
@@ -60,7 +59,7 @@ one-call c k e = on (handed c k) (λ r. taken k e (r .0) (r .1)) (λ r. (0, r .1
     taken (advance d) f z h = (1, h)
     taken (advanceTo t d) f z h = (t - c .frame, h ∙ by-runs (t - c .frame) c)
 
-pub frames-only : (c : Channel) (ls : List Call) → verbsRefused c ls ≡ true → (m : ℕ) × (channelAfter c ls ≡ runs m c)
+pub frames-only : (c : State) (ls : List Call) → verbsRefused c ls ≡ true → (m : ℕ) × (channelAfter c ls ≡ runs m c)
 unfolding channelAfter verbsRefused runs
 frames-only c [] e = (0, refl)
 frames-only c (k ∷ ls) e =
@@ -68,32 +67,27 @@ frames-only c (k ∷ ls) e =
     let b = frames-only (callChannel c k) ls (snd-true (refusedIfVerb c k) (verbsRefused (callChannel c k) ls) e) in
     (b .0 + a .0, b .1 ∙ ap (runs (b .0)) (a .1) ∙ runs-more (b .0) (a .0) c)
 
--- ---- tables and periods
+-- ---- periods
 
-pub neat-with : (t : Table) (rs : List Rank) → Neat t → Neat (withServers t rs)
-unfolding withServers
-neat-with t [] n = n
-neat-with t (r ∷ rs) n = neat-with (added t (r .identity) (r .priority)) rs (neat-added t (r .identity) (r .priority) n)
-
-period-after : (c : Channel) (ks : List Call) → channelAfter c ks .period ≡ c .period
+period-after : (c : State) (ks : List Call) → channelAfter c ks .period ≡ c .period
 unfolding channelAfter
 period-after c [] = refl
-period-after c (k ∷ ks) = period-after (callChannel c k) ks ∙ nothing-else-changes c k .period
+period-after c (k ∷ ks) = period-after (callChannel c k) ks ∙ every-call-keeps-the-table c k .period
 
 -- ---- links
 
 pub links-are-as-cut : LinksAreAsCut
 links-are-as-cut n rs ks ok i j li lj =
-    links-after (fresh (tableOf rs) n) ks (sound-fresh (tableOf rs) n (neat-with empty rs neat-empty) ok) i j li lj false
+    links-after (fresh (tableOf rs) n) ks (sound-fresh (tableOf rs) n (neat-table rs) ok) i j li lj false
     (getD-replicate (most * most) (linkOf i j) true false (omega arith))
 
 -- ---- the theorem
 
 -- of a sound channel whose links are whole
-module _ (n : ℕ) (c : Channel) (sound : Sound c) (links : AllWhole c) (same : c .period .frames ≡ n) where
+module _ (n : ℕ) (c : State) (sound : Sound c) (links : AllWhole c) (same : c .period .frames ≡ n) where
   -- m frames on, if they are enough
   led-at :
-      (s : Settled (silenceLimit (c .period)) (prospectLimit (c .period)) (traceOf c)) (m : ℕ) → settlingTime n ≤ m → Led c (s .chief) (runs m c)
+      (s : Settled (silenceLimit (c .period)) (prospectLimit (c .period)) (traceOf c)) (m : ℕ) → settlingTime n ≤ m → Led c (s .primary) (runs m c)
   unfolding runs
   led-at s m late =
       let l = s .led m (omega (arith, same, late)) in
@@ -103,14 +97,14 @@ module _ (n : ℕ) (c : Channel) (sound : Sound c) (links : AllWhole c) (same : 
   unfolding runs
   settled s =
       record {
-        server = s .chief;
+        server = s .primary;
         known = s .known;
         was = s .active;
         led = λ ls e late.
             let r = frames-only c ls e in
-            let g : channelAfter c ls .frame ≡ c .frame + r .0 = ap (λ (d : Channel). d .frame) (r .1) ∙ frame-run c sound links (r .0) in
-            subst (Led c (s .chief)) (sym (r .1)) (led-at s (r .0) (omega (arith, g, late)));
-        within = λ k late. subst (Led c (s .chief)) (sym (by-runs k c)) (led-at s k late);
+            let g : channelAfter c ls .frame ≡ c .frame + r .0 = ap (λ (d : State). d .frame) (r .1) ∙ frame-run c sound links (r .0) in
+            subst (Led c (s .primary)) (sym (r .1)) (led-at s (r .0) (omega (arith, g, late)));
+        within = λ k late. subst (Led c (s .primary)) (sym (by-runs k c)) (led-at s k late);
         highest = s .highest;
       }
 
@@ -118,14 +112,14 @@ pub settles : DemandThree
 settles n rs ks ok uncut i l a =
     settled n c sound links (ap (λ (p : Period). p .frames) (period-after first ks)) (channel-settles c sound links i l a)
   where
-    first : Channel
+    first : State
     first = fresh (tableOf rs) n
 
-    c : Channel
+    c : State
     c = channelAfter first ks
 
     begun : Sound first
-    begun = sound-fresh (tableOf rs) n (neat-with empty rs neat-empty) ok
+    begun = sound-fresh (tableOf rs) n (neat-table rs) ok
 
     sound : Sound c
     sound = sound-after first ks begun

@@ -19,17 +19,16 @@ use Rattle.server.specs.Server.{oneMore, sentBy, sentAny, after}
 use Rattle.server.specs.Hearing.{forThis, backupHears, prospectHears, primaryHears}
 use Rattle.server.specs.Timers.{afterSilent, afterBeating, afterRising}
 use Rattle.server.specs.Verbs.{from, enters, entering, verbHappens, verbAnswer}
-use Rattle.channel.specs.declared.Channel.{Channel}
-use Rattle.channel.specs.Outcome.{numberIn, channelIn}
-use Rattle.channel.specs.Table.{placeIn, standsBefore, enter, addRefusal, added, freshRefusal}
-use Rattle.channel.specs.Lines.{line, linesOf}
-use Rattle.channel.specs.Hearing.{hearsFrom, comes, nextAmong, nextSender, sendersAfter, sentByAll, inbox}
-use Rattle.channel.specs.Frame.{heardAll, heardLines, timedLines, hearing, turned, turnLines, turnsLines, advanced, frameLines}
-use Rattle.channel.specs.Verbs.{namesNobody, known, stateRefusal, verbRefusal, did}
-use Rattle.channel.specs.Advance.{advancedBy, linesBy, timeRefusal}
-use Rattle.channel.specs.Calls.{Call, verb, advance, advanceTo, callNumber, callChannel, channelAfter}
+use Rattle.group.specs.declared.State.{State}
+use Rattle.group.specs.Outcome.{numberIn, channelIn}
+use Rattle.group.specs.Table.{placeIn, standsBefore, enter, addRefusal, added, withServers, tableOf, freshRefusal}
+use Rattle.lines.specs.Lines.{line, linesOf}
+use Rattle.group.specs.Hearing.{hearsFrom, comes, nextAmong, nextSender, sendersAfter, sentByAll, inbox}
+use Rattle.group.specs.Frame.{heardAll, heardLines, timedLines, hearing, turned, turnLines, turnsLines, advanced, frameLines}
+use Rattle.group.specs.Verbs.{namesNobody, known, stateRefusal, verbRefusal, did}
+use Rattle.group.specs.Advance.{advancedBy, linesBy, timeRefusal}
+use Rattle.group.specs.Calls.{Call, verb, advance, advanceTo, callNumber, callChannel, channelAfter}
 use Rattle.settling.specs.Links.{cutByCall, cutAfter, NoLinkCut}
-use Rattle.settling.specs.Demand.{withServers, tableOf}
 use Rattle.settling.specs.Examples.{threeHighest, twoHighest, rolesOf, lent, allReady, lateReady, lowerBeats, slowest, passing, twoPrimaries, opened, Example, Examples}
 
 -- ---- links that a list does not touch stay as they were
@@ -64,7 +63,7 @@ data Untouched (a b : ℕ) : List Call → Type 0 where
   none : Untouched a b []
   more : {k : Call} {ks : List Call} → touches a b k ≡ false → Untouched a b ks → Untouched a b (k ∷ ks)
 
-untouched : (a b : ℕ) (c : Channel) (ks : List Call) (was : Bool) → Untouched a b ks → cutAfter a b c ks was ≡ was
+untouched : (a b : ℕ) (c : State) (ks : List Call) (was : Bool) → Untouched a b ks → cutAfter a b c ks was ≡ was
 unfolding cutAfter
 untouched a b c [] was none = refl
 untouched a b c (k ∷ ks) was (more e u) =

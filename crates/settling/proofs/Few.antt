@@ -15,14 +15,14 @@ use Rattle.heartbeat.specs.declared.Heartbeat.{Heartbeat}
 use Rattle.heartbeat.proofs.Order.{irreflexive}
 use Rattle.server.specs.declared.Server.{Server}
 use Rattle.server.specs.Server.{rankOf, plainOf, revealOf, passOf, sentBy}
-use Rattle.channel.specs.declared.Channel.{Channel}
-use Rattle.channel.specs.Hearing.{place, hearsFrom, noPlace, nextSender, sendersAfter, sentByAll, senders, inbox}
-use Rattle.channel.proofs.Next.{Apart, waits, next-first}
-use Rattle.channel.proofs.Senders.{some-next, none-next, under-trans}
+use Rattle.group.specs.declared.State.{State}
+use Rattle.group.specs.Hearing.{place, hearsFrom, noPlace, nextSender, sendersAfter, sentByAll, senders, inbox}
+use Rattle.group.proofs.Next.{Apart, waits, next-first}
+use Rattle.group.proofs.Senders.{some-next, none-next, under-trans}
 
 -- ---- senders
 
-module _ (c : Channel) (j : ℕ) (apart : Apart c j) where
+module _ (c : State) (j : ℕ) (apart : Apart c j) where
   few-after : (n last : ℕ) → length (sendersAfter c j n last) ≤ count (waits c j last) 16
   unfolding sendersAfter
   few-after zero last = omega arith
@@ -106,7 +106,7 @@ marked-sent i s =
     omega (arith, q, m)) in
     omega (arith, a, b, d, no-reveal, one)
 
-marked-all : (i : ℕ) (c : Channel) (is : List ℕ) → marked i (sentByAll c is) ≤ length is
+marked-all : (i : ℕ) (c : State) (is : List ℕ) → marked i (sentByAll c is) ≤ length is
 unfolding sentByAll
 marked-all i c [] = omega arith
 marked-all i c (k ∷ is) =
@@ -116,6 +116,6 @@ marked-all i c (k ∷ is) =
     omega (arith, a, b, d)
 
 -- so of 15 passes at the most
-pub few-marked : (i : ℕ) (c : Channel) (j : ℕ) → Apart c j → j < 16 → marked i (inbox c j) ≤ 15
+pub few-marked : (i : ℕ) (c : State) (j : ℕ) → Apart c j → j < 16 → marked i (inbox c j) ≤ 15
 unfolding inbox
 few-marked i c j apart h = let a = marked-all i c (senders c j) in let b = few-senders c j apart h in omega (arith, a, b)

@@ -17,10 +17,10 @@ use Rattle.server.specs.declared.Role.the-variants.{Down, Idle, Sync, Backup, P
 use Rattle.server.specs.declared.Server.{Server}
 use Rattle.server.specs.Server.{rankOf, inRole, setSilence, toProspect, sendReveal, after}
 use Rattle.server.specs.Hearing.{fromHigher, fromLower, forThis, backupHears, prospectHears, primaryHears, hearsIn, attending, heard}
-use Rattle.channel.specs.Frame.{heardAll}
+use Rattle.group.specs.Frame.{heardAll}
 use Rattle.traces.specs.Trace.{isActive, isBeating}
 use Rattle.traces.proofs.Ways.{beating}
-use Rattle.channel.proofs.Inbox.{Falls}
+use Rattle.group.proofs.Inbox.{Falls}
 
 -- a server after hearing h in frame t, by its role
 pub hear-as : (t : ℕ) (s : Server) (h : Heartbeat) {r : Role} → s .role ≡ r → heard t s h .server ≡ after t (attending t r s) (hearsIn r s h)

@@ -13,8 +13,8 @@ use Rattle.server.specs.Period.{silenceLimit, prospectLimit, beatLimit}
 use Rattle.server.specs.Server.{rankOf, sentAny}
 use Rattle.server.proofs.Sent.{reveal-any}
 use Rattle.server.proofs.Limits.{silence-limit, prospect-limit}
-use Rattle.channel.specs.declared.Channel.{Channel}
-use Rattle.channel.specs.Hearing.{place, over}
+use Rattle.group.specs.declared.State.{State}
+use Rattle.group.specs.Hearing.{place, over}
 use Rattle.traces.specs.Trace.{Trace, isActive, activeAt0}
 use Rattle.traces.specs.Facts.{Order, Limits, Ages, FirstStep, QuietStep, Facts}
 use Rattle.traces.specs.Settling.{Settled}
@@ -24,7 +24,7 @@ use Rattle.settling.proofs.Sound.{Sound, seatedIn, AllWhole, nothing-se
 use Rattle.settling.proofs.Run.{runs, traceOf, sound-runs, period-run, no-pass-run}
 use Rattle.settling.proofs.Quiet.{quiet-step}
 
-module _ (c : Channel) (sound : Sound c) (links : AllWhole c) where
+module _ (c : State) (sound : Sound c) (links : AllWhole c) where
   abbrev p : Period
   p = c .period
 

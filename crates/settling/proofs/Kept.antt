@@ -20,11 +20,11 @@ use Rattle.server.specs.Period.{silenceLimit, prospectLimit, beatLimit}
 use Rattle.server.specs.Server.{rankOf, inRole, setSilence, setBeat, sendBeat, after}
 use Rattle.server.specs.Hearing.{fromHigher, fromLower, forThis, backupHears, prospectHears, primaryHears, attending, heard}
 use Rattle.server.specs.Timers.{aged, timed}
-use Rattle.channel.specs.Frame.{heardAll}
-use Rattle.channel.proofs.Laws.{rank-one, rank-heard}
+use Rattle.group.specs.Frame.{heardAll}
+use Rattle.group.proofs.Laws.{rank-one, rank-heard}
 use Rattle.traces.specs.Trace.{isActive, isBeating}
 use Rattle.traces.proofs.Ways as ways
-use Rattle.channel.proofs.Inbox.{Falls}
+use Rattle.group.proofs.Inbox.{Falls}
 use Rattle.settling.proofs.Heard.{hear-as, stay-all, heard-append, higher-no-call}
 use Rattle.settling.proofs.Ticks.{ticks-rest, ticks-wait, woken, ticks-wake, beaten, ticks-primary, ticks-prospect, ticks-ripe}
 use Rattle.settling.proofs.Young.{Due, Young, IsHearing, nothing, backs, beats, reveals, notes, hears-only}

@@ -16,15 +16,15 @@ use Rattle.server.specs.declared.Verb.the-variants.{Start, Ready, Unready, Pass
 use Rattle.server.specs.declared.Server.{Server}
 use Rattle.server.specs.Server.{absent}
 use Rattle.server.specs.Verbs.{paired}
-use Rattle.channel.specs.declared.Channel.{Channel}
-use Rattle.channel.specs.Outcome.{numberIn}
-use Rattle.channel.specs.Table.{most, named, placeIn}
-use Rattle.channel.specs.Hearing.{place, linkOf, whole}
-use Rattle.channel.specs.Frame.{advanced}
-use Rattle.channel.specs.Verbs.{placeOf, inTable, namesNobody, known, stateRefusal, verbRefusal, did}
-use Rattle.channel.specs.Advance.{advancedBy}
-use Rattle.channel.specs.Calls.{Call, verb, advance, advanceTo, outcomeOf, sliceOf, callNumber, callChannel, channelAfter}
-use Rattle.channel.proofs.Laws.{taken, nothing-else-changes}
+use Rattle.group.specs.declared.State.{State}
+use Rattle.group.specs.Outcome.{numberIn}
+use Rattle.group.specs.Table.{most, named, placeIn}
+use Rattle.group.specs.Hearing.{place, linkOf, whole}
+use Rattle.group.specs.Frame.{advanced}
+use Rattle.group.specs.Verbs.{placeOf, inTable, namesNobody, known, stateRefusal, verbRefusal, did}
+use Rattle.group.specs.Advance.{advancedBy}
+use Rattle.group.specs.Calls.{Call, verb, advance, advanceTo, outcomeOf, sliceOf, callNumber, callChannel, channelAfter}
+use Rattle.group.proofs.Laws.{taken, every-call-keeps-the-table}
 use Rattle.settling.specs.Links.{cutByVerb, cutByCall, cutAfter}
 use Rattle.settling.proofs.Sound.{Sound}
 use Rattle.settling.proofs.Reached.{set-cases, handed, sound-call}
@@ -49,7 +49,7 @@ found-there i (s ∷ l) h =
     let z = other {t = named i s} {b = suc (indexWhere (named i) l)} 0 (ne-eqb (s .identity) i e) in
     ap (λ (k : ℕ). getD (s ∷ l) k absent .identity) z ∙ found-there i l (omega (arith, z, h)))
 
-module _ (c : Channel) (sound : Sound c) where
+module _ (c : State) (sound : Sound c) where
   in-place : (x : ℕ) → inTable c x ≡ true → (placeOf c x < 16) × (place c (placeOf c x) .identity ≡ x)
   unfolding placeIn
   in-place x e =
@@ -150,7 +150,7 @@ module _ (c : Channel) (sound : Sound c) where
     cut-verb Cut x y e = let n = named-two Cut x y refl e in linked-as x y i j true (n .0) (n .1) (n .2) (n .3) li lj was w
     cut-verb Mend x y e = let n = named-two Mend x y refl e in linked-as x y i j false (n .0) (n .1) (n .2) (n .3) li lj was w
 
-    whole-by : (n : ℕ) (d : Channel) → advancedBy n d .whole ≡ d .whole
+    whole-by : (n : ℕ) (d : State) → advancedBy n d .whole ≡ d .whole
     unfolding advancedBy advanced
     whole-by zero d = refl
     whole-by (suc n) d = whole-by n (advanced d)
@@ -167,18 +167,18 @@ module _ (c : Channel) (sound : Sound c) where
         let n = numberIn (outcomeOf c k) (length (sliceOf k)) in
         on (handed c k)
         (λ r.
-        ap (λ (d : Channel). whole d i j) (r .1)
+        ap (λ (d : State). whole d i j) (r .1)
         ∙ cut-outcome k (taken c k (r .0) .0)
         ∙ ap not (sym (chosen was (eq-eqb n 0 (r .0)))))
         (λ r.
-        ap (λ (d : Channel). whole d i j) (r .1) ∙ w ∙ ap not (sym (other (cutByCall a b k was) (ne-eqb n 0 (r .0)))))
+        ap (λ (d : State). whole d i j) (r .1) ∙ w ∙ ap not (sym (other (cutByCall a b k was) (ne-eqb n 0 (r .0)))))
 
-identity-call : (c : Channel) (k : Call) (i : ℕ) → place (callChannel c k) i .identity ≡ place c i .identity
-identity-call c k i = ap (λ (r : Rank). r .identity) (nothing-else-changes c k .ranks i)
+identity-call : (c : State) (k : Call) (i : ℕ) → place (callChannel c k) i .identity ≡ place c i .identity
+identity-call c k i = ap (λ (r : Rank). r .identity) (every-call-keeps-the-table c k .ranks i)
 
 -- after a list of calls
 pub links-after :
-    (c : Channel) (ks : List Call) → Sound c → (i j : ℕ) → i < 16 → j < 16 → (was : Bool) → whole c i j ≡ not was →
+    (c : State) (ks : List Call) → Sound c → (i j : ℕ) → i < 16 → j < 16 → (was : Bool) → whole c i j ≡ not was →
     whole (channelAfter c ks) i j ≡ not (cutAfter (place c i .identity) (place c j .identity) c ks was)
 unfolding channelAfter cutAfter
 links-after c [] s i j li lj was w = w

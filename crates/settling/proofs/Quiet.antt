@@ -13,13 +13,13 @@ use Rattle.server.specs.declared.Server.{Server}
 use Rattle.server.specs.Period.{silenceLimit, prospectLimit, beatLimit}
 use Rattle.server.specs.Server.{inRole, setSilence, setBeat, sendBeat, cleared, oneMore, sentAny}
 use Rattle.server.specs.Timers.{timed}
-use Rattle.channel.specs.declared.Channel.{Channel}
-use Rattle.channel.specs.Hearing.{place, inbox}
-use Rattle.channel.specs.Frame.{heardAll, advanced}
+use Rattle.group.specs.declared.State.{State}
+use Rattle.group.specs.Hearing.{place, inbox}
+use Rattle.group.specs.Frame.{heardAll, advanced}
 use Rattle.traces.specs.Trace.{isActive, isBeating, HearsHigher, HearsLowReveal, HearsAny}
-use Rattle.traces.specs.Facts.{Hushed, Raised, Waited, BeatsOn, QuietStep}
+use Rattle.traces.specs.Facts.{SilentBackup, RevealingProspect, Waited, BeatsOn, QuietStep}
 use Rattle.traces.proofs.Ways as ways
-use Rattle.channel.proofs.Inbox.{Falls}
+use Rattle.group.proofs.Inbox.{Falls}
 use Rattle.settling.proofs.Heard.{backed, raised, attended, backup-raised, beater-stays, beater-backs, beater-raised}
 use Rattle.settling.proofs.Young.{Young}
 use Rattle.settling.proofs.Ticks.{ticks-wait, ticks-wake, beaten, ticks-primary, ticks-prospect, ticks-ripe}
@@ -27,8 +27,8 @@ use Rattle.settling.proofs.Kept.{beaten-keeps}
 use Rattle.settling.proofs.Sound.{Sound, NoPass, AllWhole, nothing-sent, turn, rests, hears-falls}
 use Rattle.settling.proofs.Run.{runs, traceOf, sound-runs, period-run, higher-in, no-higher-in, low-in, no-low-in, any-in, none-in, unmarked-in}
 
-module _ (c : Channel) (sound : Sound c) (links : AllWhole c) (k i : ℕ) (known : i < 16) (quiet : NoPass (runs k c)) where
-  abbrev at : Channel
+module _ (c : State) (sound : Sound c) (links : AllWhole c) (k i : ℕ) (known : i < 16) (quiet : NoPass (runs k c)) where
+  abbrev at : State
   at = runs k c
 
   abbrev s : Server
@@ -137,13 +137,13 @@ module _ (c : Channel) (sound : Sound c) (links : AllWhole c) (k i : ℕ) (known
   backed-sent x = refl
 
   -- a backup whose silence timer was set in this frame
-  hushed : (x : Server) → x .role ≡ Backup → x .silence ≡ t → sentAny x ≡ false → place (runs (suc k) c) i ≡ x → Hushed (traceOf c) (suc k) i
-  hushed x r e q h =
+  silenced : (x : Server) → x .role ≡ Backup → x .silence ≡ t → sentAny x ≡ false → place (runs (suc k) c) i ≡ x → SilentBackup (traceOf c) (suc k) i
+  silenced x r e q h =
       let g : place (runs (suc k) c) i .silence ≡ t = ap (λ (y : Server). y .silence) h ∙ e in
       record { role = ap (λ (y : Server). y .role) h ∙ r; age = omega (arith, frame-next, g); quiet = ap sentAny h ∙ q }
 
   -- a prospect that revealed in this frame
-  risen : (x : Server) → heardAll t (cleared s) (inbox at i) ≡ raised t x → Raised (traceOf c) (suc k) i
+  risen : (x : Server) → heardAll t (cleared s) (inbox at i) ≡ raised t x → RevealingProspect (traceOf c) (suc k) i
   risen x e =
       let h = via (raised t x) _ e (ticks-prospect p t (raised t x) refl (no-time (prospectLimit p) (let l = some in omega arith))) in
       record {
@@ -151,32 +151,32 @@ module _ (c : Channel) (sound : Sound c) (links : AllWhole c) (k i : ℕ) (known
         reveals = ap (λ (y : Server). y .reveal) h ∙ beaten-keeps p t some (λ y. y .reveal) (raised t x) refl;
       }
 
-  yield : isBeating (s .role) ≡ true → HearsHigher (traceOf c) k i → ¬ HearsLowReveal (traceOf c) k i → Hushed (traceOf c) (suc k) i
+  yield : isBeating (s .role) ≡ true → HearsHigher (traceOf c) k i → ¬ HearsLowReveal (traceOf c) k i → SilentBackup (traceOf c) (suc k) i
   yield b u l =
       let r = higher-in c sound links k i known u in
-      hushed (backed t (cleared s)) refl refl (backed-sent s)
+      silenced (backed t (cleared s)) refl refl (backed-sent s)
       (via (backed t (cleared s)) _
       (beater-backs t (cleared s) (inbox at i) (falls (ways.beating-active (s .role) b)) (unmarked-in c sound links k i known quiet) (r .1) (r .2)
       (no-low-in c sound links k i known l) b)
       (ticks-wait p t (backed t (cleared s)) refl (no-time (silenceLimit p) (let z = some in omega arith))))
 
-  answer : isBeating (s .role) ≡ true → HearsHigher (traceOf c) k i → HearsLowReveal (traceOf c) k i → Raised (traceOf c) (suc k) i
+  answer : isBeating (s .role) ≡ true → HearsHigher (traceOf c) k i → HearsLowReveal (traceOf c) k i → RevealingProspect (traceOf c) (suc k) i
   answer b u l =
       let r = higher-in c sound links k i known u in
       let q = low-in c sound links k i known l in
       risen (backed t (cleared s))
       (beater-raised t (cleared s) (inbox at i) (falls (ways.beating-active (s .role) b)) (unmarked-in c sound links k i known quiet) (r .1) (r .2) (q .1) (q .2) b)
 
-  rise : s .role ≡ Backup → HearsLowReveal (traceOf c) k i → Raised (traceOf c) (suc k) i
+  rise : s .role ≡ Backup → HearsLowReveal (traceOf c) k i → RevealingProspect (traceOf c) (suc k) i
   rise e l =
       let q = low-in c sound links k i known l in
       risen (cleared s)
       (backup-raised t (cleared s) (inbox at i) (falls (ways.backup-active e)) (unmarked-in c sound links k i known quiet) (q .1) (q .2) e)
 
-  heed : s .role ≡ Backup → HearsAny (traceOf c) k i → ¬ HearsLowReveal (traceOf c) k i → Hushed (traceOf c) (suc k) i
+  heed : s .role ≡ Backup → HearsAny (traceOf c) k i → ¬ HearsLowReveal (traceOf c) k i → SilentBackup (traceOf c) (suc k) i
   heed e a l =
       let r = any-in c sound links k i known a in
-      hushed (setSilence t (cleared s)) e refl (silent-sent s)
+      silenced (setSilence t (cleared s)) e refl (silent-sent s)
       (via (setSilence t (cleared s)) _
       (attended t (cleared s) (inbox at i) (r .1) e (unmarked-in c sound links k i known quiet) (no-low-in c sound links k i known l))
       (ticks-wait p t (setSilence t (cleared s)) e (no-time (silenceLimit p) (let z = some in omega arith))))
@@ -188,7 +188,7 @@ module _ (c : Channel) (sound : Sound c) (links : AllWhole c) (k i : ℕ) (known
     unfolding heardAll
     unheard = ap (heardAll t (cleared s)) (none-in c sound links k i known none)
 
-    wake : at .frame - s .silence + 1 ≡ silenceLimit p → Raised (traceOf c) (suc k) i
+    wake : at .frame - s .silence + 1 ≡ silenceLimit p → RevealingProspect (traceOf c) (suc k) i
     wake h =
         let past = young .silence-past in
         let g = via (cleared s) _ unheard (ticks-wake p t some (cleared s) e (omega arith)) in

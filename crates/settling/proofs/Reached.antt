@@ -24,14 +24,14 @@ use Rattle.server.specs.declared.Period.{Period}
 use Rattle.server.specs.declared.Server.{Server}
 use Rattle.server.specs.Server.{absent, rankOf, sentAny, after}
 use Rattle.server.specs.Verbs.{paired, entering, verbEvent, verbHappens, verbAnswer}
-use Rattle.channel.specs.declared.Channel.{Channel}
-use Rattle.channel.specs.Outcome.{numberIn, channelIn}
-use Rattle.channel.specs.Hearing.{place, linkOf}
-use Rattle.channel.specs.Frame.{advanced}
-use Rattle.channel.specs.Verbs.{placeOf, happens, linksAfter, did}
-use Rattle.channel.specs.Advance.{advancedBy}
-use Rattle.channel.specs.Calls.{Call, verb, advance, advanceTo, outcomeOf, sliceOf, callChannel, channelAfter}
-use Rattle.channel.proofs.Laws.{rank-after}
+use Rattle.group.specs.declared.State.{State}
+use Rattle.group.specs.Outcome.{numberIn, channelIn}
+use Rattle.group.specs.Hearing.{place, linkOf}
+use Rattle.group.specs.Frame.{advanced}
+use Rattle.group.specs.Verbs.{placeOf, happens, linksAfter, did}
+use Rattle.group.specs.Advance.{advancedBy}
+use Rattle.group.specs.Calls.{Call, verb, advance, advanceTo, outcomeOf, sliceOf, callChannel, channelAfter}
+use Rattle.group.proofs.Laws.{rank-after}
 use Rattle.traces.specs.Trace.{isActive, isBeating}
 use Rattle.traces.proofs.Ways as ways
 use Rattle.settling.proofs.Young.{Young, YoungIn}
@@ -148,7 +148,7 @@ unpassed-entered t s passes u = λ b. absurd (clash b refl)
 Moved : Period → ℕ → Server → Server → Type 0
 Moved p t s m = (m ≡ s) ⊎ ((s .identity ≡ 0 → ⊥) × (rankOf m ≡ rankOf s) × Young p t m × Unpassed m)
 
-module _ (c : Channel) (sound : Sound c) (v : Verb) (a b : ℕ) where
+module _ (c : State) (sound : Sound c) (v : Verb) (a b : ℕ) where
   moves : (i : ℕ) → i < 16 → Moved (c .period) (c .frame) (place c i) (place (did c v a b) i)
   unfolding did Moved after Unpassed
   moves i l =
@@ -215,21 +215,21 @@ module _ (c : Channel) (sound : Sound c) (v : Verb) (a b : ℕ) where
 
 -- ---- advances
 
-pub sound-by : (n : ℕ) (c : Channel) → Sound c → Sound (advancedBy n c)
+pub sound-by : (n : ℕ) (c : State) → Sound c → Sound (advancedBy n c)
 unfolding advancedBy
 sound-by zero c s = s
 sound-by (suc n) c s = sound-by n (advanced c) (sound-advanced c s)
 
 -- ---- lists of calls
 
-sound-outcome : (c : Channel) (k : Call) → Sound c → Sound (outcomeOf c k .channel)
+sound-outcome : (c : State) (k : Call) → Sound c → Sound (outcomeOf c k .channel)
 sound-outcome c (verb v a b d) s = sound-did c s v a b
 sound-outcome c (advance d) s = sound-advanced c s
 sound-outcome c (advanceTo t d) s = sound-by (t - c .frame) c s
 
 -- what a call hands back: what it says, or the same channel
 pub handed :
-    (c : Channel) (k : Call) →
+    (c : State) (k : Call) →
     ((numberIn (outcomeOf c k) (length (sliceOf k)) ≡ 0) × (callChannel c k ≡ outcomeOf c k .channel))
     ⊎ ((numberIn (outcomeOf c k) (length (sliceOf k)) ≡ 0 → ⊥) × (callChannel c k ≡ c))
 unfolding callChannel channelIn
@@ -238,13 +238,13 @@ handed c k =
     (λ e. inl (e, chosen c (eq-eqb (numberIn (outcomeOf c k) (length (sliceOf k))) 0 e)))
     (λ e. inr (e, other (outcomeOf c k .channel) (ne-eqb (numberIn (outcomeOf c k) (length (sliceOf k))) 0 e)))
 
-pub sound-call : (c : Channel) (k : Call) → Sound c → Sound (callChannel c k)
+pub sound-call : (c : State) (k : Call) → Sound c → Sound (callChannel c k)
 sound-call c k s =
     on (handed c k)
     (λ r. subst Sound (sym (r .1)) (sound-outcome c k s))
     (λ r. subst Sound (sym (r .1)) s)
 
-pub sound-after : (c : Channel) (ks : List Call) → Sound c → Sound (channelAfter c ks)
+pub sound-after : (c : State) (ks : List Call) → Sound c → Sound (channelAfter c ks)
 unfolding channelAfter
 sound-after c [] s = s
 sound-after c (k ∷ ks) s = sound-after (callChannel c k) ks (sound-call c k s)

@@ -17,21 +17,21 @@ use Rattle.server.specs.declared.Server.{Server}
 use Rattle.server.specs.Server.{rankOf, cleared, revealOf, sentAny}
 use Rattle.server.specs.Hearing.{fromHigher, fromLower}
 use Rattle.server.proofs.Sent.{some-sent, reveal-sent, reveal-any, sent-rank, sent-reveal, sent-unmarked}
-use Rattle.channel.specs.declared.Channel.{Channel}
-use Rattle.channel.specs.Hearing.{place, over, hearsFrom, inbox}
-use Rattle.channel.specs.Frame.{advanced}
+use Rattle.group.specs.declared.State.{State}
+use Rattle.group.specs.Hearing.{place, over, hearsFrom, inbox}
+use Rattle.group.specs.Frame.{advanced}
 use Rattle.traces.specs.Trace.{Trace, HearsHigher, HearsLowReveal, HearsAny}
-use Rattle.channel.proofs.Next.{Apart}
-use Rattle.channel.proofs.Inbox.{in-inbox, of-inbox}
+use Rattle.group.proofs.Next.{Apart}
+use Rattle.group.proofs.Inbox.{in-inbox, of-inbox}
 use Rattle.settling.proofs.Heard.{unmarkedAll, callsUp, noCall, empty?}
 use Rattle.settling.proofs.Sound.{Sound, NoPass, AllWhole, rank-kept, hears-apart, sound-advanced, no-pass}
 
 -- the channel k frames on, whether the day has so many or not
-unfoldable pub runs : ℕ → Channel → Channel
+unfoldable pub runs : ℕ → State → State
 runs zero c = c
 runs (suc k) c = advanced (runs k c)
 
-abbrev pub traceOf : Channel → Trace
+abbrev pub traceOf : State → Trace
 traceOf c =
     record {
       size = 16;
@@ -44,7 +44,7 @@ traceOf c =
       reveals = λ k i. place (runs k c) i .reveal;
     }
 
-module _ (c : Channel) (sound : Sound c) (links : AllWhole c) where
+module _ (c : State) (sound : Sound c) (links : AllWhole c) where
   pub sound-runs : (k : ℕ) → Sound (runs k c)
   unfolding runs
   sound-runs zero = sound
@@ -78,7 +78,7 @@ module _ (c : Channel) (sound : Sound c) (links : AllWhole c) where
   no-pass-run k = no-pass (runs k c) (sound-runs k)
 
   module _ (k i : ℕ) (known : i < 16) where
-    abbrev at : Channel
+    abbrev at : State
     at = runs k c
 
     abbrev hearer : Server

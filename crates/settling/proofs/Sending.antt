@@ -28,24 +28,23 @@ use Rattle.server.specs.Server.{absent, setSilence, cleared, oneMore, sentBy, a
 use Rattle.server.specs.Hearing.{fromHigher, fromLower, forThis, backupHears, prospectHears, primaryHears, hearsIn, hears, attending, heard}
 use Rattle.server.specs.Timers.{aged, silentIn, beatingIn, risingIn, afterSilent, afterBeating}
 use Rattle.server.specs.Verbs.{from, enters, entering, verbEvent, verbHappens, verbAnswer}
-use Rattle.channel.specs.declared.Channel.{Channel}
-use Rattle.channel.specs.Table.{empty, fresh}
-use Rattle.channel.specs.Hearing.{place, inbox}
-use Rattle.channel.specs.Frame.{heardAll}
-use Rattle.channel.specs.Verbs.{placeOf, happens}
-use Rattle.channel.specs.Calls.{channelAfter}
-use Rattle.channel.proofs.Laws.{rank-heard}
+use Rattle.group.specs.declared.State.{State}
+use Rattle.group.specs.Table.{tableOf, fresh}
+use Rattle.group.specs.Hearing.{place, inbox}
+use Rattle.group.specs.Frame.{heardAll}
+use Rattle.group.specs.Verbs.{placeOf, happens}
+use Rattle.group.specs.Calls.{channelAfter}
+use Rattle.group.proofs.Laws.{rank-heard}
+use Rattle.group.proofs.Made.{neat-table}
 use Rattle.traces.specs.Trace.{isActive, isBeating}
 use Rattle.traces.proofs.Ways as ways
-use Rattle.settling.specs.Demand.{tableOf}
-use Rattle.settling.specs.Sending.{Appends, TimersAppend, AppendsAll, SentInOrder}
-use Rattle.channel.proofs.Inbox.{Falls}
+use Rattle.settling.specs.Sending.{Appends, TimersAppend, AppendsAll, SentInOrder, SendersAlwaysDiffer}
+use Rattle.group.proofs.Inbox.{Falls}
 use Rattle.settling.proofs.Heard.{rest-all}
 use Rattle.settling.proofs.Kept.{RevealerBeats, unrevealed, revealer-heard}
-use Rattle.settling.proofs.Sound.{Sound, hears-falls, hears-apart}
-use Rattle.settling.proofs.Made.{neat-empty, sound-fresh}
+use Rattle.settling.proofs.Sound.{Sound, hears-falls, hears-apart, senders-differ}
+use Rattle.settling.proofs.Made.{sound-fresh}
 use Rattle.settling.proofs.Reached.{sound-after}
-use Rattle.settling.proofs.Demand.{neat-with}
 use Rattle.settling.proofs.Few.{marks, marked, marked-append, few-marked}
 use Rattle.settling.proofs.Ordered.{beat-appends, timer-appends, reveal-appends, pass-appends, nothing-appends, backup-appends, lower-appends, primary-appends, sync-appends, idle-appends, down-appends}
 
@@ -289,7 +288,7 @@ verb-appends t s v b u =
 
 -- ---- the channel
 
-module _ (c : Channel) (sound : Sound c) where
+module _ (c : State) (sound : Sound c) where
   abbrev now : ℕ
   now = c .frame + 1
 
@@ -354,4 +353,8 @@ module _ (c : Channel) (sound : Sound c) where
 
 pub sent-in-order : SentInOrder
 sent-in-order rs n ks ok =
-    in-order (channelAfter (fresh (tableOf rs) n) ks) (sound-after (fresh (tableOf rs) n) ks (sound-fresh (tableOf rs) n (neat-with empty rs neat-empty) ok))
+    let c = fresh (tableOf rs) n in in-order (channelAfter c ks) (sound-after c ks (sound-fresh (tableOf rs) n (neat-table rs) ok))
+
+pub senders-always-differ : SendersAlwaysDiffer
+senders-always-differ rs n ks ok =
+    let c = fresh (tableOf rs) n in senders-differ (channelAfter c ks) (sound-after c ks (sound-fresh (tableOf rs) n (neat-table rs) ok))

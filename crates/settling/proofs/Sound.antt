@@ -8,30 +8,32 @@ use lib.Dec.{eqb}
 use lib.ListN.{length}
 use Rattle.lists.specs.Choice.{choose}
 use Rattle.lists.specs.Lists.{count}
-use Rattle.lists.proofs.Cases.{tested, fst-true, snd-true, on, clash}
+use Rattle.lists.proofs.Cases.{tested, fst-true, on, clash}
 use Rattle.lists.proofs.Counting.{count-le}
 use Rattle.heartbeat.specs.declared.Rank.{Rank}
 use Rattle.server.specs.declared.Server.{Server}
 use Rattle.server.specs.Server.{rankOf, cleared, sentAny}
 use Rattle.server.specs.Timers.{timed}
-use Rattle.channel.specs.declared.Channel.{Channel}
-use Rattle.channel.specs.Hearing.{place, whole, hearsFrom, inbox}
-use Rattle.channel.specs.Frame.{heardAll, hearing, turned, advanced}
-use Rattle.channel.proofs.Laws.{rank-heard, rank-ticked}
+use Rattle.group.specs.declared.State.{State}
+use Rattle.group.specs.Hearing.{place, whole, hearsFrom, inbox}
+use Rattle.group.specs.Frame.{heardAll, hearing, turned, advanced}
+use Rattle.group.specs.Laws.{SendersDiffer}
+use Rattle.group.proofs.Laws.{rank-heard, rank-ticked}
 use Rattle.traces.specs.Trace.{isActive, isBeating}
-use Rattle.channel.proofs.Places.{place-advanced, long-advanced}
-use Rattle.channel.proofs.Next.{Apart}
-use Rattle.channel.proofs.Inbox.{Falls, inbox-falls}
+use Rattle.group.proofs.Places.{place-advanced, long-advanced}
+use Rattle.group.proofs.Next.{Apart}
+use Rattle.group.proofs.Heard.{apart-heard}
+use Rattle.group.proofs.Inbox.{Falls, inbox-falls}
 use Rattle.settling.proofs.Heard.{rest-all}
 use Rattle.settling.proofs.Young.{Young, due-next, due-heard}
 use Rattle.settling.proofs.Ticks.{ticks-rest}
 use Rattle.settling.proofs.Kept.{young-ticked, pass-heard, pass-ticked, active-heard, active-ticked, RevealerBeats, revealer-heard, revealer-ticked}
 
 -- a server stands in the place
-abbrev pub seatedIn : Channel → ℕ → Bool
+abbrev pub seatedIn : State → ℕ → Bool
 seatedIn c i = not (eqb (place c i .identity) 0)
 
-pub record Sound (c : Channel) : Type 0 where
+pub record Sound (c : State) : Type 0 where
   pub long : length (c .servers) ≡ 16
   pub linked : length (c .whole) ≡ 256
   pub period : 1 ≤ c .period .frames
@@ -47,11 +49,11 @@ pub record Sound (c : Channel) : Type 0 where
   pub fits : count (seatedIn c) 16 ≤ c .period .frames
 
 -- nobody passed in this frame
-abbrev pub NoPass : Channel → Type 0
+abbrev pub NoPass : State → Type 0
 NoPass c = (i : ℕ) → i < 16 → place c i .pass ≡ 0
 
 -- all links are whole
-abbrev pub AllWhole : Channel → Type 0
+abbrev pub AllWhole : State → Type 0
 AllWhole c = (i j : ℕ) → i < 16 → j < 16 → whole c i j ≡ true
 
 -- a server that is cleared has sent nothing
@@ -59,7 +61,7 @@ pub nothing-sent : (s : Server) → sentAny (cleared s) ≡ false
 unfolding sentAny choose
 nothing-sent s = refl
 
-module _ (c : Channel) (sound : Sound c) where
+module _ (c : State) (sound : Sound c) where
   abbrev pub now : ℕ
   now = c .frame + 1
 
@@ -93,14 +95,13 @@ module _ (c : Channel) (sound : Sound c) where
       ∙ sym a)
       (λ a. ap (λ (m : Server). isActive (m .role)) (rests i h a))
 
-  -- the places that a place hears have different identities
+  -- the servers that sent have different ranks
+  pub senders-differ : SendersDiffer c
+  senders-differ a b la lb d p q e =
+      sound .apart a b la lb d (λ z. clash p (sound .silent a la z)) (ap (λ (r : Rank). r .identity) e)
+
   pub hears-apart : (j : ℕ) → Apart c j
-  unfolding hearsFrom
-  hears-apart j =
-      record {
-        differ = λ a b p q la lb d e.
-            sound .apart a b la lb d (λ z. clash (fst-true _ _ (snd-true (not (eqb a j)) _ p)) (sound .silent a la z)) e;
-      }
+  hears-apart j = apart-heard c senders-differ j
 
   -- of an active hearer, they are not its own
   pub hears-falls : (j : ℕ) → j < 16 → isActive (place c j .role) ≡ true → Falls (cleared (place c j)) (inbox c j)

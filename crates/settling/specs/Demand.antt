@@ -10,23 +10,14 @@ use Rattle.lists.specs.Choice.{choose}
 use Rattle.heartbeat.specs.declared.Rank.{Rank}
 use Rattle.server.specs.declared.Role.the-variants.{Backup, Primary}
 use Rattle.server.specs.Server.{rankOf}
-use Rattle.channel.specs.declared.Table.{Table}
-use Rattle.channel.specs.declared.Channel.{Channel}
-use Rattle.channel.specs.Table.{most, empty, added, freshRefusal, fresh}
-use Rattle.channel.specs.Hearing.{place, over}
-use Rattle.channel.specs.Frame.{advanced}
-use Rattle.channel.specs.Advance.{advancedBy}
-use Rattle.channel.specs.Calls.{Call, verb, advance, advanceTo, callNumber, callChannel, channelAfter}
+use Rattle.group.specs.declared.State.{State}
+use Rattle.group.specs.Table.{most, tableOf, freshRefusal, fresh}
+use Rattle.group.specs.Hearing.{place, over}
+use Rattle.group.specs.Frame.{advanced}
+use Rattle.group.specs.Advance.{advancedBy}
+use Rattle.group.specs.Calls.{Call, verb, advance, advanceTo, callNumber, callChannel, channelAfter}
 use Rattle.traces.specs.Trace.{isActive, isBeating}
 use Rattle.settling.specs.Links.{NoLinkCut}
-
--- "any table and P that are not refused": servers added one after the other, in any order. One that is refused leaves the table as it was
-unfoldable pub withServers : Table → List Rank → Table
-withServers t [] = t
-withServers t (r ∷ rs) = withServers (added t (r .identity) (r .priority)) rs
-
-abbrev pub tableOf : List Rank → Table
-tableOf rs = withServers empty rs
 
 abbrev pub isVerb : Call → Bool
 isVerb (verb v a b d) = true
@@ -34,30 +25,30 @@ isVerb (advance d) = false
 isVerb (advanceTo t d) = false
 
 -- "each verb is refused, and an advance may be"
-abbrev pub refusedIfVerb : Channel → Call → Bool
+abbrev pub refusedIfVerb : State → Call → Bool
 refusedIfVerb c k = choose (isVerb k) (not (eqb (callNumber c k) 0)) true
 
 -- "In the calls that follow it, made in the same way, .."
-unfoldable pub verbsRefused : Channel → List Call → Bool
+unfoldable pub verbsRefused : State → List Call → Bool
 verbsRefused c [] = true
 verbsRefused c (k ∷ ks) = refusedIfVerb c k && verbsRefused (callChannel c k) ks
 
 -- (demand 3) "in backup, prospect or primary": the server of place i
-abbrev pub InThoseRoles : Channel → ℕ → Type 0
+abbrev pub InThoseRoles : State → ℕ → Type 0
 InThoseRoles c i = isActive (place c i .role) ≡ true
 
 -- (demand 3) "none was prospect or primary"
-abbrev pub NoneProspectOrPrimary : Channel → Type 0
+abbrev pub NoneProspectOrPrimary : State → Type 0
 NoneProspectOrPrimary c = (i : ℕ) → i < most → isBeating (place c i .role) ≡ false
 
 -- (demand 3) "it is the highest of them"
-abbrev pub HighestOfThem : Channel → ℕ → Type 0
+abbrev pub HighestOfThem : State → ℕ → Type 0
 HighestOfThem c h = (i : ℕ) → i < most → InThoseRoles c i → (i ≡ h) ⊎ (over c h i ≡ true)
 
 -- (demand 3) "exactly one server is primary, .. and each other that was in one of those roles is in backup": c is the channel after the
 -- first list, d the one after the calls that follow, h the place of the one server. A place keeps its identity and its priority; that it
--- has kept those of the table during the first list is `KeepsItsTable` of the crate channel
-pub record Led (c : Channel) (h : ℕ) (d : Channel) : Type 0 where
+-- has kept those of the table during the first list is `KeepsItsTable` of the crate group
+pub record Led (c : State) (h : ℕ) (d : State) : Type 0 where
   pub primary : place d h .role ≡ Primary
   pub alone : (i : ℕ) → i < most → place d i .role ≡ Primary → i ≡ h
   pub backups : (i : ℕ) → i < most → i ≢ h → InThoseRoles c i → place d i .role ≡ Backup
@@ -68,19 +59,19 @@ abbrev pub settlingTime : ℕ → ℕ
 settlingTime n = 4 * n + 2
 
 -- the channel c is settled w frames later; (demand 3) "ever after exactly one server is primary, always the same"
-pub record Settles (w : ℕ) (c : Channel) : Type 0 where
+pub record Settles (w : ℕ) (c : State) : Type 0 where
   pub server : ℕ
   pub known : server < most
   pub was : InThoseRoles c server
   pub led : (ls : List Call) → verbsRefused c ls ≡ true → c .frame + w ≤ channelAfter c ls .frame → Led c server (channelAfter c ls)
-  -- "an accepted one over several frames is as many advances" (`AsManyAdvances` of the crate channel): the frames inside of it, too. Said
+  -- "an accepted one over several frames is as many advances" (`AsManyAdvances` of the crate group): the frames inside of it, too. Said
   -- of every number of frames, also of one that the day is too short for
   pub within : (k : ℕ) → w ≤ k → Led c server (advancedBy k c)
   -- (demand 3) "if none was prospect or primary one frame after the list, it is the highest of them"
   pub highest : NoneProspectOrPrimary (advanced c) → HighestOfThem c server
 
 -- (demand 3) "After any list of calls from a fresh channel, refused ones included: with no link cut, some server in backup, prospect or
--- primary": a channel with the period n is settled w frames later
+-- primary": a channel with the period n is settled w frames later. "any table and P that are not refused": the table has servers added one after the other
 abbrev pub SettlesIn : ℕ → ℕ → Type 0
 SettlesIn n w =
     (rs : List Rank) (ks : List Call) → freshRefusal (tableOf rs) n ≡ 0 → NoLinkCut (fresh (tableOf rs) n) ks →

@@ -6,13 +6,12 @@ use lib.ListN.{replicate}
 use Rattle.heartbeat.specs.declared.Rank.{Rank}
 use Rattle.server.specs.declared.Verb.the-variants.{Start, Ready, Pass, Cut, Mend}
 use Rattle.server.specs.Verbs.{roleNumber}
-use Rattle.channel.specs.declared.Channel.{Channel}
-use Rattle.channel.specs.Table.{freshRefusal, fresh}
-use Rattle.channel.specs.Hearing.{place}
-use Rattle.channel.specs.Frame.{advanced}
-use Rattle.channel.specs.Calls.{Call, verb, advanceTo, channelAfter}
+use Rattle.group.specs.declared.State.{State}
+use Rattle.group.specs.Table.{tableOf, freshRefusal, fresh}
+use Rattle.group.specs.Hearing.{place}
+use Rattle.group.specs.Frame.{advanced}
+use Rattle.group.specs.Calls.{Call, verb, advanceTo, channelAfter}
 use Rattle.settling.specs.Links.{NoLinkCut}
-use Rattle.settling.specs.Demand.{tableOf}
 
 -- the servers of the examples: 1, 2 and 3, in the places 0, 1 and 2, of these priorities
 abbrev pub ranked : ℕ → ℕ → ℕ → List Rank
@@ -31,7 +30,7 @@ abbrev pub twoHighest : List Rank
 twoHighest = ranked 10 30 20
 
 -- their roles by number: 3 is backup, 4 prospect, 5 primary
-abbrev pub rolesOf : Channel → List ℕ
+abbrev pub rolesOf : State → List ℕ
 rolesOf c = roleNumber (place c 0 .role) ∷ roleNumber (place c 1 .role) ∷ roleNumber (place c 2 .role) ∷ []
 
 -- a lent slice that is long enough
@@ -78,7 +77,7 @@ passing = allReady (advanceTo 12 lent ∷ verb Pass 3 1 lent ∷ [])
 abbrev pub twoPrimaries : List Call
 twoPrimaries = allReady (advanceTo 6 lent ∷ verb Cut 3 2 lent ∷ advanceTo 12 lent ∷ verb Mend 3 2 lent ∷ [])
 
-abbrev pub opened : List Rank → Channel
+abbrev pub opened : List Rank → State
 opened rs = fresh (tableOf rs) 3
 
 -- what holds of the servers rs and the list ks, which ends in frame 12: the table is taken, no link is cut, and the roles when the list

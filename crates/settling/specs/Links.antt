@@ -7,8 +7,8 @@ use lib.Dec.{eqb}
 use Rattle.lists.specs.Choice.{choose}
 use Rattle.server.specs.declared.Verb.{Verb}
 use Rattle.server.specs.declared.Verb.the-variants.{Start, Ready, Unready, Pass, Crash, Restart, Cut, Mend}
-use Rattle.channel.specs.declared.Channel.{Channel}
-use Rattle.channel.specs.Calls.{Call, verb, advance, advanceTo, callNumber, callChannel}
+use Rattle.group.specs.declared.State.{State}
+use Rattle.group.specs.Calls.{Call, verb, advance, advanceTo, callNumber, callChannel}
 
 -- whether a link is cut after an accepted verb of it; `was` says whether it was before
 abbrev pub cutByVerb : Verb → Bool → Bool
@@ -28,10 +28,10 @@ cutByCall a b (advance d) was = was
 cutByCall a b (advanceTo t d) was = was
 
 -- and after a list of calls, of which the refused ones do nothing
-unfoldable pub cutAfter : ℕ → ℕ → Channel → List Call → Bool → Bool
+unfoldable pub cutAfter : ℕ → ℕ → State → List Call → Bool → Bool
 cutAfter a b c [] was = was
 cutAfter a b c (k ∷ ks) was = cutAfter a b (callChannel c k) ks (choose (eqb (callNumber c k) 0) (cutByCall a b k was) was)
 
 -- demand 3's "with no link cut": after the calls ks on the channel c, in which none was
-abbrev pub NoLinkCut : Channel → List Call → Type 0
+abbrev pub NoLinkCut : State → List Call → Type 0
 NoLinkCut c ks = (a b : ℕ) → cutAfter a b c ks false ≡ false

@@ -11,13 +11,13 @@ use Rattle.server.specs.declared.Verb.{Verb}
 use Rattle.server.specs.Server.{cleared, plainOf, revealOf, passOf, sendPass, sentBy, after}
 use Rattle.server.specs.Hearing.{hears, attending}
 use Rattle.server.specs.Timers.{silent, beating, rising, afterSilent, afterBeating}
-use Rattle.channel.specs.declared.Channel.{Channel}
-use Rattle.channel.specs.Table.{most, freshRefusal, fresh}
-use Rattle.channel.specs.Hearing.{place, inbox}
-use Rattle.channel.specs.Frame.{heardAll}
-use Rattle.channel.specs.Verbs.{placeOf, happens}
-use Rattle.channel.specs.Calls.{Call, channelAfter}
-use Rattle.settling.specs.Demand.{tableOf}
+use Rattle.group.specs.declared.State.{State}
+use Rattle.group.specs.Table.{most, tableOf, freshRefusal, fresh}
+use Rattle.group.specs.Hearing.{place, inbox}
+use Rattle.group.specs.Frame.{heardAll}
+use Rattle.group.specs.Verbs.{placeOf, happens}
+use Rattle.group.specs.Calls.{Call, channelAfter}
+use Rattle.group.specs.Laws.{SendersDiffer}
 
 -- what the server s sends in an event
 abbrev pub sends : Server → Event → List Heartbeat
@@ -42,13 +42,13 @@ abbrev pub attentive : ℕ → Server → Server
 attentive t s = attending t (s .role) s
 
 -- the timers of the server m in frame t, one after the other
-pub record TimersAppend (t : ℕ) (c : Channel) (m : Server) : Type 0 where
+pub record TimersAppend (t : ℕ) (c : State) (m : Server) : Type 0 where
   pub silence : Appends t m (silent t (c .period) m)
   pub beat : Appends t (afterSilent t (c .period) m) (beating t (c .period) (afterSilent t (c .period) m))
   pub rise : Appends t (afterBeating t (c .period) (afterSilent t (c .period) m)) (rising t (c .period) (afterBeating t (c .period) (afterSilent t (c .period) m)))
 
 -- in the frame after c, and in the verbs on c, every event appends
-pub record AppendsAll (c : Channel) : Type 0 where
+pub record AppendsAll (c : State) : Type 0 where
   -- a frame begins with nothing sent
   pub begins : (i : ℕ) → i < most → sentBy (cleared (place c i)) ≡ []
   -- place i, that has heard what is past, hears h
@@ -62,3 +62,7 @@ pub record AppendsAll (c : Channel) : Type 0 where
 -- after any list of calls from a fresh channel
 abbrev pub SentInOrder : Type 0
 SentInOrder = (rs : List Rank) (n : ℕ) (ks : List Call) → freshRefusal (tableOf rs) n ≡ 0 → AppendsAll (channelAfter (fresh (tableOf rs) n) ks)
+
+-- and then the servers that sent have different ranks, so that each of them is heard (`AllHearInOrder` of the crate group)
+abbrev pub SendersAlwaysDiffer : Type 0
+SendersAlwaysDiffer = (rs : List Rank) (n : ℕ) (ks : List Call) → freshRefusal (tableOf rs) n ≡ 0 → SendersDiffer (channelAfter (fresh (tableOf rs) n) ks)

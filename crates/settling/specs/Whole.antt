@@ -4,11 +4,10 @@ use mathlib.Core.Path.{_≡_}
 use mathlib.Core.List.{List}
 use Prim.Native.Nat.{ℕ, _<_}
 use Rattle.heartbeat.specs.declared.Rank.{Rank}
-use Rattle.channel.specs.Table.{most, freshRefusal, fresh}
-use Rattle.channel.specs.Hearing.{place, whole}
-use Rattle.channel.specs.Calls.{Call, channelAfter}
+use Rattle.group.specs.Table.{most, tableOf, freshRefusal, fresh}
+use Rattle.group.specs.Hearing.{place, whole}
+use Rattle.group.specs.Calls.{Call, channelAfter}
 use Rattle.settling.specs.Links.{cutAfter}
-use Rattle.settling.specs.Demand.{tableOf}
 
 -- after any list of calls on a fresh channel, the link from place i to place j is whole if and only if `cutAfter` does not say that it is cut
 abbrev pub LinksAreAsCut : Type 0

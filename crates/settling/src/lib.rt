@@ -2,7 +2,8 @@
 use server::Period;
 ghost use Rattle.settling.specs.Figure.{SettlingFrames};
 
-// The frames within which a channel with this period comes to one primary, and ever after the same: 4 periods and 2 frames.
+// The frames within which a channel with this period comes to one primary, and ever after the same, where no link is cut, some server is in backup, prospect or
+// primary, and only advances are accepted: 4 periods and 2 frames.
 pub fn settling_frames(period: Period) -> u32
     ensures { λ r. ⌜ SettlingFrames (period .frames) r ⌝ }
 {

@@ -1,14 +1,17 @@
--- Laws of `digits`: its two cases, and how many there are. Assumes nothing.
+-- Laws of `digits`: its two cases, and how many there are; and of one digit. Assumes nothing.
+use mathlib.Core.Bool.{true}
 use mathlib.Core.Path.{_≡_, refl, sym, ap, _∙_}
 use mathlib.Core.List.{List, [], _∷_, _++_}
 use mathlib.Core.Logic.{⊎-elim}
 use Prim.Native.Nat.{ℕ, zero, suc, _+_, _*_, _/_, _%_, _^_, _≤_, _<_}
 use native.Mathlib.Omega.{arith}
 use native.Mathlib.Nat.{pow-suc}
-use borrow.Author.Tests.{lt-ltb, le-ltb}
+use borrow.Author.Tests.{lt-ltb, le-ltb, le-leb, leb-true}
+use lib.Dec.{leb}
 use lib.ListN.{length, length-append}
-use Rattle.lists.proofs.Cases.{less}
+use Rattle.lists.proofs.Cases.{less, and-true, fst-true, snd-true}
 use Rattle.text.specs.Digits.{lastDigit, digitsUpTo, digits}
+use Rattle.text.specs.Number.{isDigit}
 
 last : (k n : ℕ) → n < 10 → digitsUpTo k n ≡ lastDigit n ∷ []
 last zero n h = refl
@@ -58,3 +61,17 @@ digits-few (suc k) n h =
   where
     tenth : (n p : ℕ) → n < p * 10 → n / 10 < p
     tenth n p h = omega arith
+
+-- a number of 64 bits has at most 20
+pub width-few : {r : ℕ} (n : ℕ) → r ≡ length (digits n) → n < 2 ^ 64 → r ≤ 20
+width-few n e h = omega (arith, digits-few 19 n (omega arith))
+
+-- the byte of a digit passes the test, and what passes is one of these bytes
+pub digit-passes : (d : ℕ) → d < 10 → isDigit (48 + d) ≡ true
+digit-passes d h = and-true (le-leb 48 (48 + d) (omega arith)) (le-leb (48 + d) 57 (omega arith))
+
+pub digit-least : (x : ℕ) → isDigit x ≡ true → 48 ≤ x
+digit-least x e = leb-true 48 x (fst-true (leb 48 x) (leb x 57) e)
+
+pub digit-most : (x : ℕ) → isDigit x ≡ true → x ≤ 57
+digit-most x e = leb-true x 57 (snd-true (leb 48 x) (leb x 57) e)

@@ -12,7 +12,7 @@ use lib.ListN.{length, getD, drop, drop-of-length-le}
 use lib.Seq.{drop-cons}
 use Rattle.lists.specs.Choice.{choose}
 use Rattle.lists.specs.Lists.{all}
-use Rattle.lists.proofs.Cases.{tested, chosen, other, and-true, and-left, and-right, fst-true, snd-true}
+use Rattle.lists.proofs.Cases.{tested, chosen, other, and-true, and-left, and-right, fst-true, snd-true, clash}
 use Rattle.refusal.specs.Answer.{Answer, accepted, refused}
 use Rattle.refusal.proofs.Answers.{took, declined}
 use Rattle.text.specs.Number.{isDigit, valueFrom, value, wellWritten, readNumber}
@@ -41,12 +41,12 @@ start-more (x ∷ y ∷ s) z o = refl
 bad-written : (s : List ℕ) → badStart s ≡ true → wellWritten s ≡ false
 unfolding badStart wellWritten
 bad-written [] e = refl
-bad-written (x ∷ []) e = let z : _≡_ {A = ℕ} 0 1 = cc in absurd (omega arith)
+bad-written (x ∷ []) e = absurd (clash e refl)
 bad-written (x ∷ y ∷ s) e = rw e
 
 good-written : (s : List ℕ) → badStart s ≡ false → wellWritten s ≡ all isDigit s
 unfolding badStart wellWritten
-good-written [] e = let z : _≡_ {A = ℕ} 0 1 = cc in absurd (omega arith)
+good-written [] e = absurd (clash refl e)
 good-written (x ∷ []) e = one (isDigit x)
   where
     one : (t : Bool) → t ≡ (t && true)

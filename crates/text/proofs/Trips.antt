@@ -5,17 +5,17 @@ use mathlib.Core.List.{List, [], _∷_, _++_, append-assoc, append-nil}
 use mathlib.Core.Logic.{⊎-elim}
 use Prim.Native.Nat.{ℕ, zero, suc, _+_, _-_, _*_, _/_, _%_, _≤_, _<_}
 use native.Mathlib.Omega.{arith}
-use borrow.Author.Tests.{le-leb, leb-true, eqb-false, ne-eqb, not-true}
+use borrow.Author.Tests.{le-leb, eqb-false, ne-eqb, not-true}
 use lib.Dec.{leb, eqb}
 use Rattle.lists.specs.Lists.{all}
-use Rattle.lists.proofs.Cases.{less, chosen, and-true, fst-true, snd-true}
+use Rattle.lists.proofs.Cases.{less, chosen, and-true, fst-true, snd-true, clash}
 use Rattle.lists.proofs.Clear.{all-append}
 use Rattle.refusal.specs.Answer.{accepted}
 use Rattle.refusal.proofs.Answers.{took}
 use Rattle.text.specs.Digits.{lastDigit, digits}
 use Rattle.text.specs.Number.{isDigit, valueFrom, value, wellWritten, readNumber}
 use Rattle.text.specs.Trips.{NumberReadsBack, NumberWritesBack}
-use Rattle.text.proofs.Digits.{digits-one, digits-more}
+use Rattle.text.proofs.Digits.{digits-one, digits-more, digit-passes, digit-least, digit-most}
 
 -- ---- written, then read
 
@@ -28,7 +28,7 @@ by-tenths P one more n = up-to n n (omega arith)
     up-to (suc k) n h = ⊎-elim (λ s. one n s) (λ s. more n s (up-to k (n / 10) (omega arith))) (less n 10)
 
 digit-of : (n : ℕ) → isDigit (lastDigit n) ≡ true
-digit-of n = and-true (le-leb 48 (lastDigit n) (omega arith)) (le-leb (lastDigit n) 57 (omega arith))
+digit-of n = digit-passes (n % 10) (omega arith)
 
 pub all-digits : (n : ℕ) → all isDigit (digits n) ≡ true
 all-digits =
@@ -88,8 +88,8 @@ number-reads-back lo hi n l h =
 -- a digit more at the end
 digits-next : (n x : ℕ) → 0 < n → isDigit x ≡ true → digits (n * 10 + (x - 48)) ≡ digits n ++ (x ∷ [])
 digits-next n x p e =
-    let lo : 48 ≤ x = leb-true 48 x (fst-true (leb 48 x) (leb x 57) e) in
-    let up : x ≤ 57 = leb-true x 57 (snd-true (leb 48 x) (leb x 57) e) in
+    let lo = digit-least x e in
+    let up = digit-most x e in
     let tenth : (n * 10 + (x - 48)) / 10 ≡ n = omega arith in
     let last : lastDigit (n * 10 + (x - 48)) ≡ x = omega arith in
     digits-more (n * 10 + (x - 48)) (omega arith) ∙ rw (tenth, last)
@@ -104,8 +104,8 @@ digits-value n (x ∷ s) p e =
 
 one-digit : (x : ℕ) → isDigit x ≡ true → digits (x - 48) ≡ x ∷ []
 one-digit x e =
-    let lo : 48 ≤ x = leb-true 48 x (fst-true (leb 48 x) (leb x 57) e) in
-    let up : x ≤ 57 = leb-true x 57 (snd-true (leb 48 x) (leb x 57) e) in
+    let lo = digit-least x e in
+    let up = digit-most x e in
     let is : lastDigit (x - 48) ≡ x = omega arith in
     digits-one (x - 48) (omega arith) ∙ rw is
 
@@ -114,13 +114,13 @@ no-tens x = omega arith
 
 written-value : (s : List ℕ) → wellWritten s ≡ true → digits (valueFrom 0 s) ≡ s
 unfolding wellWritten
-written-value [] e = let z : _≡_ {A = ℕ} 0 1 = cc in absurd (omega arith)
+written-value [] e = absurd (clash e refl)
 written-value (x ∷ []) e = ap digits (no-tens x) ∙ one-digit x e
 written-value (x ∷ y ∷ s) e =
     let other-first = eqb-false x 48 (not-true (eqb x 48) (fst-true (not (eqb x 48)) (all isDigit (x ∷ y ∷ s)) e)) in
     let ds = snd-true (not (eqb x 48)) (all isDigit (x ∷ y ∷ s)) e in
     let d = fst-true (isDigit x) (all isDigit (y ∷ s)) ds in
-    let lo : 48 ≤ x = leb-true 48 x (fst-true (leb 48 x) (leb x 57) d) in
+    let lo = digit-least x d in
     let above : 0 < x - 48 = omega arith in
     ap (λ (k : ℕ). digits (valueFrom k (y ∷ s))) (no-tens x)
     ∙ digits-value (x - 48) (y ∷ s) above (snd-true (isDigit x) (all isDigit (y ∷ s)) ds)

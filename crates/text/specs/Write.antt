@@ -3,6 +3,7 @@ use mathlib.Core.Bool.{Bool}
 use mathlib.Core.List.{List, [], _∷_}
 use mathlib.Core.Path.{_≡_}
 use Prim.Native.Nat.{ℕ, _+_, _≤_}
+use lib.Dec.{leb}
 use lib.ListN.{length}
 use Rattle.lists.specs.Choice.{choose}
 use Rattle.lists.specs.Splice.{splice, fits}
@@ -14,6 +15,10 @@ use Rattle.text.specs.declared.Written.the-variants.{To, Refused}
 abbrev pub ofWritten : Written → Answer
 ofWritten (To at) = accepted (at ∷ [])
 ofWritten (Refused r) = refused (numberOf r)
+
+-- whether a slice of l bytes has room for n of them from the place `at` on
+abbrev pub roomFor : ℕ → ℕ → ℕ → Bool
+roomFor l at n = leb (at + n) l
 
 -- "9. The lent output slice is shorter than what the call would otherwise write." A writer takes a place in the slice, so what counts is the
 -- slice from that place on. A place beyond the slice's end gets 9 even if nothing is to be written: document 01 has no places, and leaves this free

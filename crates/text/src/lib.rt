@@ -3,13 +3,12 @@ use refusal::Refusal;
 ghost use mathlib.Core.Path.{_≡_};
 ghost use mathlib.Core.Bool.{true, false};
 ghost use Prim.Native.Nat.{_+_, _≤_};
-ghost use lib.Dec.{leb};
 ghost use lib.ListN.{length};
 ghost use Rattle.lists.specs.Lists.{same, upTo};
 ghost use Rattle.text.specs.Digits.{digits};
 ghost use Rattle.text.specs.Number.{ofNumber, readNumber};
 ghost use Rattle.text.specs.Line.{ofLine, readLine, fields, field, afterField};
-ghost use Rattle.text.specs.Write.{Writes, WritesOn};
+ghost use Rattle.text.specs.Write.{roomFor, Writes, WritesOn};
 ghost use Rattle.text.specs.Steps.{badStart, readFrom, readDigit, atLeast};
 
 // A number read, or 2.
@@ -204,7 +203,7 @@ pub fn read_number(s: &[u8], least: u64, greatest: u64) -> NumberAnswer
 
 // Whether n bytes fit into a slice of the given length, from the place `at` on.
 pub fn fits(length: usize, at: usize, n: usize) -> bool
-    ensures { λ r. ⌜ r ≡ leb (at + n) length ⌝ }
+    ensures { λ r. ⌜ r ≡ roomFor length at n ⌝ }
 {
     if at > length { false } else { n <= length - at }
 }

@@ -5,11 +5,12 @@ use mathlib.Core.Path.{_≡_, sym, ap, _∙_}
 use Prim.Native.Nat.{ℕ, suc, _+_, _/_, _%_, _<_}
 use native.Mathlib.Numerals.{add-one}
 use native.Mathlib.Omega.{arith}
-use borrow.Author.Tests.{leb-true, ltb-true, le-leb, lt-ltb}
+use borrow.Author.Tests.{ltb-true, lt-ltb}
 use lib.Dec.{ltb}
 use lib.ListN.{length, getD}
 use Rattle.lists.proofs.Cases.{and-true, fst-true, snd-true}
 use Rattle.text.specs.Number.{isDigit}
+use Rattle.text.proofs.Digits.{digit-passes, digit-least, digit-most}
 use Rattle.timecode.specs.Label.{two}
 use Rattle.timecode.specs.Read.{twoAt, twoBelow}
 use Rattle.timecode.specs.Steps.{Digit, Digits, Below}
@@ -19,11 +20,7 @@ pub ruleset parts = (fst-true, snd-true)
 
 -- a byte that passes the test is a digit
 digit : (x : ℕ) → isDigit x ≡ true → Digit x
-digit x e = record { low = leb-true _ _ (search parts); high = leb-true _ _ (search parts) }
-
--- the byte of a digit passes the test
-digit-passes : (d : ℕ) → d < 10 → isDigit (48 + d) ≡ true
-digit-passes d h = and-true (le-leb 48 (48 + d) (omega arith)) (le-leb (48 + d) 57 (omega arith))
+digit x e = record { low = digit-least x e; high = digit-most x e }
 
 -- the two bytes at place k pass the test
 abbrev pub areDigits : List ℕ → ℕ → Bool

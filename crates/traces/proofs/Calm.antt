@@ -7,9 +7,9 @@ use native.Mathlib.Omega.{arith}
 use Rattle.lists.proofs.Cases.{on, clash}
 use Rattle.server.specs.declared.Role.the-variants.{Backup}
 use Rattle.traces.specs.Trace.{Trace, Beats, HearsAny}
-use Rattle.traces.specs.Facts.{Facts, Hushed}
+use Rattle.traces.specs.Facts.{Facts, SilentBackup}
 use Rattle.traces.proofs.Ways.{prospect-beats, backup-active, backup-still}
-use Rattle.traces.proofs.Ways.{Went, went, rested, kept, yielded, raised, woke, heeded, waited}
+use Rattle.traces.proofs.Ways.{Went, went, rested, kept, yielded, answered, woke, heeded, waited}
 use Rattle.traces.proofs.Senders.{Wakes}
 use Rattle.traces.proofs.Beaters.{Unrivalled}
 
@@ -21,8 +21,8 @@ Near P t h k i = ((t .sends k h ≡ true) × (t .silenceAge k i ≤ P)) ⊎ (t .
 abbrev pub Calm : ℕ → Trace → ℕ → ℕ → Type 0
 Calm P t h k = (i : ℕ) → i < t .size → t .role k i ≡ Backup → Near P t h k i
 
-pub hushed-near : (P : ℕ) (t : Trace) (h k i : ℕ) → Hushed t k i → Near P t h k i
-hushed-near P t h k i d = inr (let z = d .age in omega arith)
+pub silent-near : (P : ℕ) (t : Trace) (h k i : ℕ) → SilentBackup t k i → Near P t h k i
+silent-near P t h k i d = inr (let z = d .age in omega arith)
 
 module _ {P S Q : ℕ} {t : Trace} (f : Facts P S Q t) (h : ℕ) (known : h < t .size) where
   -- a backup hears h when h sends
@@ -41,10 +41,10 @@ module _ {P S Q : ℕ} {t : Trace} (f : Facts P S Q t) (h : ℕ) (known : h < t 
       go : Went S t k i → Near P t h (suc k) i
       go (rested a q s) = absurd (clash (backup-active (sym q ∙ e)) a)
       go (kept b y d o) = absurd (backup-still e d)
-      go (yielded b y d) = hushed-near P t h (suc k) i d
-      go (raised a y d) = absurd (backup-still e (prospect-beats (d .role)))
+      go (yielded b y d) = silent-near P t h (suc k) i d
+      go (answered a y d) = absurd (backup-still e (prospect-beats (d .role)))
       go (woke a y g d) = absurd (backup-still e (prospect-beats (d .role)))
-      go (heeded a y d) = hushed-near P t h (suc k) i d
+      go (heeded a y d) = silent-near P t h (suc k) i d
       go (waited a y d) =
           let older = d .age in
           let young = f .ages k h p known .beat-young (u .beats) in

@@ -6,12 +6,12 @@ use Prim.Native.Nat.{ℕ, suc, _+_, _<_, _≤_}
 use native.Mathlib.Omega.{arith}
 use Rattle.lists.proofs.Cases.{on, less, clash, refuted}
 use Rattle.traces.specs.Trace.{Trace, isBeating, Active, Beats, HearsAny}
-use Rattle.traces.specs.Facts.{Facts, Raised, Waited}
+use Rattle.traces.specs.Facts.{Facts, RevealingProspect, Waited}
 use Rattle.traces.specs.Settling.{NoneBeats}
 use Rattle.traces.proofs.Laws.{upto}
 use Rattle.traces.proofs.Order.{Highest}
 use Rattle.traces.proofs.Ways.{beats-still}
-use Rattle.traces.proofs.Ways.{Went, went, rested, kept, yielded, raised, woke, heeded, waited}
+use Rattle.traces.proofs.Ways.{Went, went, rested, kept, yielded, answered, woke, heeded, waited}
 use Rattle.traces.proofs.Senders.{NoReveal, active-at, sender-beats, no-new}
 use Rattle.traces.proofs.Beaters.{Unrivalled, Tops, tops-unheard, sends-soon}
 use Rattle.traces.proofs.Sole.{Sole, sole-unrivalled, sole-start, sole-on}
@@ -30,21 +30,21 @@ module _ {P S Q : ℕ} {t : Trace} (f : Facts P S Q t) where
   nothing-heard k i p still r = clash (sender-beats f k (r .who) p (r .known) (r .sent)) (still (r .who) (r .known))
 
   -- so an active server is woken or waits on
-  wakes-or-waits : (k i : ℕ) → 2 ≤ k → i < t .size → NoneBeats t k → Active t 0 i → Raised t (suc k) i ⊎ Waited t k i
+  wakes-or-waits : (k i : ℕ) → 2 ≤ k → i < t .size → NoneBeats t k → Active t 0 i → RevealingProspect t (suc k) i ⊎ Waited t k i
   wakes-or-waits k i p l still a = go (went f k i (omega arith) l)
     where
-      go : Went S t k i → Raised t (suc k) i ⊎ Waited t k i
+      go : Went S t k i → RevealingProspect t (suc k) i ⊎ Waited t k i
       go (rested z q s) = absurd (clash (active-at f k i l ∙ a) z)
       go (kept b y c o) = absurd (clash b (still i l))
       go (yielded b y u) = absurd (clash b (still i l))
-      go (raised z y u) = inl u
+      go (answered z y u) = inl u
       go (woke z y g u) = inl u
       go (heeded z y u) = absurd (nothing-heard k i p still y)
       go (waited z y u) = inr u
 
   module _ (un : Unrevealed S t) where
     -- lemma C: if nobody beats at 2 and nobody reveals up to S + 1, every active server reveals in S + 2
-    pub all-wake : NoneBeats t 2 → (i : ℕ) → i < t .size → Active t 0 i → Raised t (suc (suc S)) i
+    pub all-wake : NoneBeats t 2 → (i : ℕ) → i < t .size → Active t 0 i → RevealingProspect t (suc (suc S)) i
     all-wake none i l a =
         let end = upto Silent 2 (suc S) (none, omega arith) next (suc S) (omega arith) (omega arith) in
         on (wakes-or-waits (suc S) i (omega arith) l (end .0) a) (λ u. u)

@@ -11,11 +11,11 @@ use Rattle.traces.specs.Facts.{Facts}
 use Rattle.traces.proofs.Laws.{onward}
 use Rattle.traces.proofs.Order.{Highest, not-over, rank, rank-lt, rank-small}
 use Rattle.traces.proofs.Ways.{prospect-beats, backup-active, backup-still, backs-or-beats, beats-still}
-use Rattle.traces.proofs.Ways.{Went, went, rested, kept, yielded, raised, woke, heeded, waited}
+use Rattle.traces.proofs.Ways.{Went, went, rested, kept, yielded, answered, woke, heeded, waited}
 use Rattle.traces.proofs.Senders.{NoReveal, active-at, beater-active, sender-active}
 use Rattle.traces.proofs.Senders.{revealer-active, revealer-beats, reveal-from}
 use Rattle.traces.proofs.Beaters.{Unrivalled, Tops, sends-soon}
-use Rattle.traces.proofs.Calm.{Near, Calm, hushed-near, hears-h, calm-sleeps, calm-step}
+use Rattle.traces.proofs.Calm.{Near, Calm, silent-near, hears-h, calm-sleeps, calm-step}
 use Rattle.traces.proofs.Sole.{Sole, sole-start, sole-on}
 
 -- h is the highest of those that are active at 0
@@ -41,9 +41,9 @@ module _ {P S Q : ℕ} {t : Trace} (f : Facts P S Q t) (h : ℕ) (top : IsTop t 
     unheard = top-unheard k (omega arith);
   }
 
-  -- lemma B: a reveal raises the top
-  pub reveal-raises : (k j : ℕ) → 1 ≤ k → j < t .size → t .reveals k j ≡ true → Beats t (suc k) h
-  reveal-raises k j p l r =
+  -- lemma B: a reveal makes the top beat in the next frame
+  pub reveal-makes-beat : (k j : ℕ) → 1 ≤ k → j < t .size → t .reveals k j ≡ true → Beats t (suc k) h
+  reveal-makes-beat k j p l r =
       on (backs-or-beats (t .role k h) (active-at f k h (top .known) ∙ top .has))
       (λ e. on (top .over j l (revealer-active f k j p l r))
       (λ q. absurd (backup-still e (rw q at (revealer-beats f k j p l r))))
@@ -54,7 +54,7 @@ module _ {P S Q : ℕ} {t : Trace} (f : Facts P S Q t) (h : ℕ) (top : IsTop t 
   -- lemma E: after a reveal of j in frame y
   module _ (y j : ℕ) (p : 1 ≤ y) (l : j < t .size) (r : t .reveals y j ≡ true) where
     pub top-after : (k : ℕ) → suc y ≤ k → Unrivalled t h k
-    top-after = top-beats-on (suc y) (omega arith) (reveal-raises y j p l r)
+    top-after = top-beats-on (suc y) (omega arith) (reveal-makes-beat y j p l r)
 
     -- all but j hear it, and j beats
     heard : (i : ℕ) → t .role y i ≡ Backup → HearsAny t y i
@@ -66,10 +66,10 @@ module _ {P S Q : ℕ} {t : Trace} (f : Facts P S Q t) (h : ℕ) (top : IsTop t 
         go : Went S t y i → Near P t h (suc y) i
         go (rested a q s) = absurd (clash (backup-active (sym q ∙ e)) a)
         go (kept b u d o) = absurd (backup-still e d)
-        go (yielded b u d) = hushed-near P t h (suc y) i d
-        go (raised a u d) = absurd (backup-still e (prospect-beats (d .role)))
+        go (yielded b u d) = silent-near P t h (suc y) i d
+        go (answered a u d) = absurd (backup-still e (prospect-beats (d .role)))
         go (woke a u s d) = absurd (u (heard i a))
-        go (heeded a u d) = hushed-near P t h (suc y) i d
+        go (heeded a u d) = silent-near P t h (suc y) i d
         go (waited a u d) = absurd (u (heard i a))
 
     calm-after : (k : ℕ) → suc y ≤ k → Calm P t h k

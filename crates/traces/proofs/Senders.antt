@@ -10,7 +10,7 @@ use Rattle.traces.specs.Trace.{Trace, isActive, isBeating, Active, Beats
 use Rattle.traces.specs.Trace.{HearsLowReveal, HearsAny}
 use Rattle.traces.specs.Facts.{Facts, BeatsOn}
 use Rattle.traces.proofs.Ways.{beating-active, prospect-beats, backup-active, backup-still, Went, went}
-use Rattle.traces.proofs.Ways.{rested, kept, yielded, raised, woke, heeded, waited}
+use Rattle.traces.proofs.Ways.{rested, kept, yielded, answered, woke, heeded, waited}
 
 -- nobody reveals in frame k
 abbrev pub NoReveal : Trace → ℕ → Type 0
@@ -26,7 +26,7 @@ way-active : {S : ℕ} {t : Trace} {k i : ℕ} → Went S t k i → isActive (t 
 way-active (rested a e q) = ap isActive e
 way-active (kept b h c o) = beating-active _ c ∙ sym (beating-active _ b)
 way-active (yielded b h u) = backup-active (u .role) ∙ sym (beating-active _ b)
-way-active (raised a h u) = beating-active _ (prospect-beats (u .role)) ∙ sym a
+way-active (answered a h u) = beating-active _ (prospect-beats (u .role)) ∙ sym a
 way-active (woke e h g u) = beating-active _ (prospect-beats (u .role)) ∙ sym (backup-active e)
 way-active (heeded e h u) = backup-active (u .role) ∙ sym (backup-active e)
 way-active (waited e h u) = backup-active (u .role) ∙ sym (backup-active e)
@@ -37,7 +37,7 @@ way-sends : {S : ℕ} {t : Trace} {k i : ℕ} → Went S t k i → t .sends (suc
 way-sends (rested a e q) s = absurd (clash s q)
 way-sends (kept b h c o) s = (beating-active _ b, c)
 way-sends (yielded b h u) s = absurd (clash s (u .quiet))
-way-sends (raised a h u) s = (a, prospect-beats (u .role))
+way-sends (answered a h u) s = (a, prospect-beats (u .role))
 way-sends (woke e h g u) s = (backup-active e, prospect-beats (u .role))
 way-sends (heeded e h u) s = absurd (clash s (u .quiet))
 way-sends (waited e h u) s = absurd (clash s (u .quiet))
@@ -48,7 +48,7 @@ way-new : {S : ℕ} {t : Trace} {k i : ℕ} → Went S t k i → Beats t (suc k)
 way-new (rested a e q) c = inl (sym (ap isBeating e) ∙ c)
 way-new (kept b h c o) d = inl b
 way-new (yielded b h u) d = inl b
-way-new (raised a h u) d = inr (u .reveals)
+way-new (answered a h u) d = inr (u .reveals)
 way-new (woke e h g u) d = inr (u .reveals)
 way-new (heeded e h u) d = absurd (backup-still (u .role) d)
 way-new (waited e h u) d = absurd (backup-still (u .role) d)
@@ -59,7 +59,7 @@ way-reveals : {S : ℕ} {t : Trace} {k i : ℕ} → Went S t k i → t .reveals 
 way-reveals (rested a e q) r s = absurd (clash s q)
 way-reveals (kept b h c o) r s = absurd (clash r (o .no-reveal))
 way-reveals (yielded b h u) r s = absurd (clash s (u .quiet))
-way-reveals (raised a h u) r s = inl h
+way-reveals (answered a h u) r s = inl h
 way-reveals (woke e h g u) r s = inr (record { role = e; deaf = h; due = g })
 way-reveals (heeded e h u) r s = absurd (clash s (u .quiet))
 way-reveals (waited e h u) r s = absurd (clash s (u .quiet))
@@ -70,7 +70,7 @@ way-timer : {S : ℕ} {t : Trace} {k i : ℕ} → Went S t k i → Beats t (suc 
 way-timer (rested a e q) d = absurd (clash (beating-active _ (sym (ap isBeating e) ∙ d)) a)
 way-timer (kept b h c o) d = inr o
 way-timer (yielded b h u) d = absurd (backup-still (u .role) d)
-way-timer (raised a h u) d = inl (u .reveals)
+way-timer (answered a h u) d = inl (u .reveals)
 way-timer (woke e h g u) d = inl (u .reveals)
 way-timer (heeded e h u) d = absurd (backup-still (u .role) d)
 way-timer (waited e h u) d = absurd (backup-still (u .role) d)

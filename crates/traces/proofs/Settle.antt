@@ -15,7 +15,7 @@ use Rattle.traces.proofs.Ways.{prospect-beats, primary-beats, backup-st
 use Rattle.traces.proofs.Senders.{beater-active, no-new}
 use Rattle.traces.proofs.Beaters.{Unrivalled, ripens}
 use Rattle.traces.proofs.Sole.{Sole}
-use Rattle.traces.proofs.Reveals.{IsTop, top-beats-on, reveal-raises, sole-after}
+use Rattle.traces.proofs.Reveals.{IsTop, top-beats-on, reveal-makes-beat, sole-after}
 use Rattle.traces.proofs.Quiet.{Unrevealed, HighestBeater, all-wake, sole-from, unrivalled-from}
 
 -- somebody reveals in a frame 1 .. S + 1
@@ -49,7 +49,7 @@ module _ {P S Q : ℕ} {t : Trace} (f : Facts P S Q t) where
   won : (h : ℕ) → h < t .size → Active t 0 h → ((k : ℕ) → suc (suc S) ≤ k → Unrivalled t h k)
       → ((k : ℕ) → S + Q + 2 ≤ k → Sole P t h k) → TopIfStill t h → Settled S Q t
   won h l a on-top sole high = record {
-    chief = h;
+    primary = h;
     known = l;
     active = a;
     highest = high;
@@ -79,7 +79,7 @@ module _ {P S Q : ℕ} {t : Trace} (f : Facts P S Q t) where
 
   settles-with : (h : ℕ) → IsTop t h → Settled S Q t
   settles-with h top = on (reveal? S t)
-      (λ r. let b = reveal-raises f h top (r .frame) (r .who) (r .early) (r .known) (r .reveals) in
+      (λ r. let b = reveal-makes-beat f h top (r .frame) (r .who) (r .early) (r .known) (r .reveals) in
       top-wins h top (r .frame) (r .who) (r .early) (omega arith) (r .known) (r .reveals)
       (top-beats-on f h top (suc (r .frame)) (omega arith) b (suc (suc S)) (omega arith) .beats))
       (λ un. on (highest (f .order) (λ i. isBeating (t .role 2 i)) (λ i. beater-active f 2 i) (t .size) (omega arith))

@@ -7,13 +7,13 @@ use native.Mathlib.Omega.{arith}
 use Rattle.lists.proofs.Cases.{on, equal, clash, refuted}
 use Rattle.server.specs.declared.Role.the-variants.{Backup}
 use Rattle.traces.specs.Trace.{Trace, Active, Beats, HearsHigher, HearsAny}
-use Rattle.traces.specs.Facts.{Facts, Hushed}
+use Rattle.traces.specs.Facts.{Facts, SilentBackup}
 use Rattle.traces.proofs.Laws.{onward}
 use Rattle.traces.proofs.Ways.{backup-still, beats-still}
-use Rattle.traces.proofs.Ways.{Went, went, rested, kept, yielded, raised, woke, heeded, waited}
+use Rattle.traces.proofs.Ways.{Went, went, rested, kept, yielded, answered, woke, heeded, waited}
 use Rattle.traces.proofs.Senders.{NoReveal, active-at, beater-active, backup-was, reveal-from}
 use Rattle.traces.proofs.Beaters.{Unrivalled, Tops, tops-unheard}
-use Rattle.traces.proofs.Calm.{Calm, hushed-near, calm-sleeps, calm-step}
+use Rattle.traces.proofs.Calm.{Calm, silent-near, calm-sleeps, calm-step}
 
 -- h is the only beater of frame k, all is calm, and nobody reveals
 pub record Sole (P : ℕ) (t : Trace) (h k : ℕ) : Type 0 where
@@ -28,7 +28,7 @@ still-backup : {S : ℕ} {t : Trace} {k i : ℕ} → t .role k i ≡ Backup → 
 still-backup e q (rested a g s) = g ∙ e
 still-backup e q (kept b y d o) = absurd (backup-still e b)
 still-backup e q (yielded b y d) = d .role
-still-backup e q (raised a y d) = absurd (clash (d .reveals) q)
+still-backup e q (answered a y d) = absurd (clash (d .reveals) q)
 still-backup e q (woke a y g d) = absurd (clash (d .reveals) q)
 still-backup e q (heeded a y d) = d .role
 still-backup e q (waited a y d) = d .role
@@ -66,9 +66,9 @@ module _ {P S Q : ℕ} {t : Trace} (f : Facts P S Q t) (h : ℕ) (known : h < t 
   -- h, the highest beater, sends in frame k, and nobody reveals in the next
   module _ (k : ℕ) (p : 2 ≤ k) (b : Beats t k h) (top : Tops t h k) (s : t .sends k h ≡ true)
       (hid : NoReveal t (suc k)) where
-    -- every other active server is hushed
-    hushes : (i : ℕ) → i < t .size → i ≢ h → Active t 0 i → Hushed t (suc k) i
-    hushes i l d a = go (went f k i (omega arith) l)
+    -- every other active server is a backup that sends nothing
+    silences : (i : ℕ) → i < t .size → i ≢ h → Active t 0 i → SilentBackup t (suc k) i
+    silences i l d a = go (went f k i (omega arith) l)
       where
         any : HearsAny t k i
         any = record { who = h; known = known; other = λ q. d (sym q); sent = s }
@@ -76,11 +76,11 @@ module _ {P S Q : ℕ} {t : Trace} (f : Facts P S Q t) (h : ℕ) (known : h < t 
         above : Beats t k i → HearsHigher t k i
         above z = record { who = h; known = known; sent = s; over = on (top i l z) (λ e. absurd (d e)) (λ e. e) }
 
-        go : Went S t k i → Hushed t (suc k) i
+        go : Went S t k i → SilentBackup t (suc k) i
         go (rested z q g) = absurd (clash (active-at f k i l ∙ a) z)
         go (kept z y q o) = absurd (y (above z))
         go (yielded z y q) = q
-        go (raised z y q) = absurd (clash (q .reveals) (hid i l))
+        go (answered z y q) = absurd (clash (q .reveals) (hid i l))
         go (woke z y g q) = absurd (clash (q .reveals) (hid i l))
         go (heeded z y q) = q
         go (waited z y q) = absurd (y any)
@@ -91,8 +91,8 @@ module _ {P S Q : ℕ} {t : Trace} (f : Facts P S Q t) (h : ℕ) (known : h < t 
         let still = beats-still f k h (omega arith) known b (tops-unheard f h known k p top) in
         record {
           beats = still;
-          backs = λ i l d a. hushes i l d a .role;
-          calm = λ i l e. hushed-near P t h (suc k) i
-              (hushes i l (λ q. backup-still e (rw q still)) (backup-was f (suc k) i l e));
+          backs = λ i l d a. silences i l d a .role;
+          calm = λ i l e. silent-near P t h (suc k) i
+              (silences i l (λ q. backup-still e (rw q still)) (backup-was f (suc k) i l e));
           hidden = hid;
         }

@@ -9,7 +9,7 @@ use Rattle.server.specs.declared.Role.{Role}
 use Rattle.server.specs.declared.Role.the-variants.{Down, Idle, Sync, Backup, Prospect, Primary}
 use Rattle.traces.specs.Trace.{isActive, isBeating, Trace}
 use Rattle.traces.specs.Trace.{Active, Beats, HearsHigher, HearsLowReveal, HearsAny}
-use Rattle.traces.specs.Facts.{Facts, Hushed, Raised, Waited, BeatsOn}
+use Rattle.traces.specs.Facts.{Facts, SilentBackup, RevealingProspect, Waited, BeatsOn}
 use Rattle.traces.proofs.Laws.{holds?, both?, found}
 
 -- roles
@@ -75,10 +75,10 @@ any? t k i = on (found _ (λ j. both? (other? j) (holds? (t .sends k j))) (t .si
 pub data Went (S : ℕ) (t : Trace) (k i : ℕ) : Type 0 where
   rested : isActive (t .role k i) ≡ false → t .role (suc k) i ≡ t .role k i → t .sends (suc k) i ≡ false → Went S t k i
   kept : Beats t k i → ¬ HearsHigher t k i → Beats t (suc k) i → BeatsOn t k i → Went S t k i
-  yielded : Beats t k i → HearsHigher t k i → Hushed t (suc k) i → Went S t k i
-  raised : Active t k i → HearsLowReveal t k i → Raised t (suc k) i → Went S t k i
-  woke : t .role k i ≡ Backup → ¬ HearsAny t k i → t .silenceAge k i + 1 ≡ S → Raised t (suc k) i → Went S t k i
-  heeded : t .role k i ≡ Backup → HearsAny t k i → Hushed t (suc k) i → Went S t k i
+  yielded : Beats t k i → HearsHigher t k i → SilentBackup t (suc k) i → Went S t k i
+  answered : Active t k i → HearsLowReveal t k i → RevealingProspect t (suc k) i → Went S t k i
+  woke : t .role k i ≡ Backup → ¬ HearsAny t k i → t .silenceAge k i + 1 ≡ S → RevealingProspect t (suc k) i → Went S t k i
+  heeded : t .role k i ≡ Backup → HearsAny t k i → SilentBackup t (suc k) i → Went S t k i
   waited : t .role k i ≡ Backup → ¬ HearsAny t k i → Waited t k i → Went S t k i
 
 module _ {P S Q : ℕ} {t : Trace} (f : Facts P S Q t) where
@@ -102,11 +102,11 @@ module _ {P S Q : ℕ} {t : Trace} (f : Facts P S Q t) where
       on (tested (isActive (t .role k i)))
       (λ a. on (backs-or-beats (t .role k i) a)
       (λ e. on (any? t k i)
-      (λ y. on (low? t k i) (λ z. raised a z (s .rises e z)) (λ z. heeded e y (s .heeds e y z)))
+      (λ y. on (low? t k i) (λ z. answered a z (s .rises e z)) (λ z. heeded e y (s .heeds e y z)))
       (λ y. on (less (t .silenceAge k i + 1) S) (λ z. waited e y (s .waits e y z))
       (λ z. let g = f .ages k i p l .silence-young e in let q : t .silenceAge k i + 1 ≡ S = omega arith in
       woke e y q (s .wakes e y q))))
       (λ b. on (higher? t k i)
-      (λ y. on (low? t k i) (λ z. raised a z (s .answers b y z)) (λ z. yielded b y (s .yields b y z)))
+      (λ y. on (low? t k i) (λ z. answered a z (s .answers b y z)) (λ z. yielded b y (s .yields b y z)))
       (λ y. kept b y (beats-still k i p l b y) (s .beats-on b y))))
       (λ a. rested a (s .rests a .0) (s .rests a .1))

@@ -35,14 +35,14 @@ pub record FirstStep (t : Trace) (i : ℕ) : Type 0 where
   pub sender-active : t .sends 1 i ≡ true → Active t 0 i
   pub revealer-beats : t .reveals 1 i ≡ true → Beats t 1 i
 
--- i has been silenced: a backup of silence age 0 that sends nothing
-pub record Hushed (t : Trace) (k i : ℕ) : Type 0 where
+-- i is a backup of silence age 0 that sends nothing
+pub record SilentBackup (t : Trace) (k i : ℕ) : Type 0 where
   pub role : t .role k i ≡ Backup
   pub age : t .silenceAge k i ≡ 0
   pub quiet : t .sends k i ≡ false
 
--- i has been raised: a prospect that sends a reveal
-pub record Raised (t : Trace) (k i : ℕ) : Type 0 where
+-- i is a prospect that sends a reveal
+pub record RevealingProspect (t : Trace) (k i : ℕ) : Type 0 where
   pub role : t .role k i ≡ Prospect
   pub reveals : t .reveals k i ≡ true
 
@@ -66,11 +66,11 @@ pub record QuietStep (P S Q : ℕ) (t : Trace) (k i : ℕ) : Type 0 where
   pub becomes-primary : t .role k i ≡ Prospect → ¬ HearsHigher t k i → t .prospectAge k i + 1 ≡ Q
       → t .role (suc k) i ≡ Primary
   pub beats-on : Beats t k i → ¬ HearsHigher t k i → BeatsOn t k i
-  pub yields : Beats t k i → HearsHigher t k i → ¬ HearsLowReveal t k i → Hushed t (suc k) i
-  pub answers : Beats t k i → HearsHigher t k i → HearsLowReveal t k i → Raised t (suc k) i
-  pub rises : t .role k i ≡ Backup → HearsLowReveal t k i → Raised t (suc k) i
-  pub wakes : t .role k i ≡ Backup → ¬ HearsAny t k i → t .silenceAge k i + 1 ≡ S → Raised t (suc k) i
-  pub heeds : t .role k i ≡ Backup → HearsAny t k i → ¬ HearsLowReveal t k i → Hushed t (suc k) i
+  pub yields : Beats t k i → HearsHigher t k i → ¬ HearsLowReveal t k i → SilentBackup t (suc k) i
+  pub answers : Beats t k i → HearsHigher t k i → HearsLowReveal t k i → RevealingProspect t (suc k) i
+  pub rises : t .role k i ≡ Backup → HearsLowReveal t k i → RevealingProspect t (suc k) i
+  pub wakes : t .role k i ≡ Backup → ¬ HearsAny t k i → t .silenceAge k i + 1 ≡ S → RevealingProspect t (suc k) i
+  pub heeds : t .role k i ≡ Backup → HearsAny t k i → ¬ HearsLowReveal t k i → SilentBackup t (suc k) i
   pub waits : t .role k i ≡ Backup → ¬ HearsAny t k i → t .silenceAge k i + 1 < S → Waited t k i
 
 -- all that is asked of a trace

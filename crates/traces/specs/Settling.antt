@@ -27,11 +27,11 @@ TopIfStill t h = NoneBeats t 1 → Top t h
 
 -- one server, active at 0, leads from S + Q + 2 on; and it is the highest if nobody beats at 1
 pub record Settled (S Q : ℕ) (t : Trace) : Type 0 where
-  pub chief : ℕ
-  pub known : chief < t .size
-  pub active : Active t 0 chief
-  pub led : (k : ℕ) → S + Q + 2 ≤ k → Led t chief k
-  pub highest : TopIfStill t chief
+  pub primary : ℕ
+  pub known : primary < t .size
+  pub active : Active t 0 primary
+  pub led : (k : ℕ) → S + Q + 2 ≤ k → Led t primary k
+  pub highest : TopIfStill t primary
 
 -- a group with an active server settles
 abbrev pub Settling : Type 0

@@ -2,7 +2,7 @@ use mathlib.Core.Path.{sym, ap, _∙_}
 use mathlib.Core.Bool.{Bool, true, _&&_}
 use lib.Dec.{ltb}
 use Rattle.lists.proofs.Cases.{chosen, other}
-use Rattle.channel.specs.Table.{most}
+use Rattle.group.specs.Table.{most}
 use Rattle.channel.proofs.Acting.{and-rest}
 use borrow.Author.Needs.{needs}
 use Rattle.channel.proofs.known.Statement.{statement}

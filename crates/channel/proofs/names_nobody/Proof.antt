@@ -1,7 +1,7 @@
 use mathlib.Core.Path.{ap}
 use mathlib.Core.Bool.{Bool, _&&_, _||_}
 use lib.Dec.{eqb}
-use Rattle.channel.specs.Verbs.{namesNobody}
+use Rattle.group.specs.Verbs.{namesNobody}
 use borrow.Author.Needs.{needs}
 use Rattle.channel.proofs.names_nobody.Statement.{statement}
 use Rattle.channel.proofs.names_nobody.Tie as tie

@@ -2,11 +2,11 @@
 use Prim.Native.Nat.{ℕ, _<_, _/_}
 use native.Mathlib.Omega.{arith}
 use borrow.Author.Needs.{needs}
-use mathlib.Core.Path.{sym}
+use mathlib.Core.Path.{refl, sym}
 use borrow.Fn.Kinds.{In}
 use borrow.Fn.PlainCycle.{Measures, is, falls, and}
 use lib.Dec.{lit<}
-use Rattle.text.proofs.Digits.{length-one, length-more, digits-few}
+use Rattle.text.proofs.Digits.{length-one, length-more, width-few}
 use Rattle.text.proofs.width.Reads as width
 use Rattle.text.proofs.width.Kinds as width-kinds
 use Rattle.text.proofs.+width.Lts-width as width-lts
@@ -24,7 +24,7 @@ width-below t = and 0 width-kinds.ps (falls 0 width-kinds.ps _<_ μ-width t) wid
 
 width-add-result :
     (t : ℕ) → width-lts.Need-add-result (width-below t, width.Post) (width-at t) width.Post
-width-add-result t c = omega (arith, digits-few 19 (c .before .before .args .n / 10) (omega arith))
+width-add-result t c = omega (arith, width-few (c .before .before .args .n / 10) refl (omega arith))
 
 width-returns :
     (t : ℕ) → width-lts.Need-returns (width-below t, width.Post) (width-at t) width.Post

@@ -3,13 +3,12 @@ use mathlib.Core.List.{append-nil}
 use Prim.Native.Nat.{ℕ, _+_, _-_}
 use native.Mathlib.Omega.{arith}
 use borrow.Author.Tests.{lt-ltb, le-ltb}
-use lib.ListN.{length}
 use Rattle.timecode.specs.Label.{dayLength}
 use Rattle.lists.proofs.Cases.{chosen, other}
-use Rattle.refusal.specs.declared.Refusal.the-variants.{DayOver}
-use Rattle.channel.specs.Frame.{frameLines}
-use Rattle.channel.specs.Advance.{stepOutcome, advancedBy, linesBy}
-use Rattle.channel.proofs.Answering.{has-number, answers-not, answers-as}
+use Rattle.group.specs.Frame.{frameLines}
+use Rattle.group.specs.Advance.{stepOutcome, advancedBy, linesBy}
+use Rattle.group.proofs.Answering.{gives-as}
+use Rattle.channel.proofs.Answering.{answers-refused}
 use borrow.Author.Needs.{needs}
 use Rattle.channel.proofs.Channel.advance.Statement.{statement}
 use Rattle.channel.proofs.Channel.advance.Tie as tie
@@ -17,15 +16,14 @@ use Rattle.channel.proofs.Channel.advance.Tie as tie
 returns : tie.Need-returns
 returns c =
     let a = c .before .before .before .before .args in
-    answers-not (a .self) (stepOutcome (a .self)) (a .out .now) DayOver
-    (has-number (stepOutcome (a .self)) (length (a .out .now)) DayOver (other _ (le-ltb (a .self .frame + 1) dayLength (omega arith)))) (c .refused .ensures)
+    answers-refused (a .self) (stepOutcome (a .self .state)) (a .out .now) (c .refused .ensures) (other _ (le-ltb (a .self .state .frame + 1) dayLength (omega arith)))
 
 returns-2 : tie.Need-returns-2
 unfolding advancedBy linesBy
 returns-2 c =
-    let s = c .before .before .before .before .before .before .before .before .args .self in
+    let s = c .before .before .before .before .before .before .before .before .args .self .state in
     let one : (s .frame + 1) - s .frame ≡ 1 = omega arith in
-    answers-as (sym (chosen _ (lt-ltb (s .frame + 1) dayLength (omega arith)))) (ap (λ (n : ℕ). linesBy n s) one ∙ append-nil (frameLines s)) (ap (λ (n : ℕ). advancedBy n s) one) (c .before .before .run .ensures)
+    gives-as (sym (chosen _ (lt-ltb (s .frame + 1) dayLength (omega arith)))) (ap (λ (n : ℕ). linesBy n s) one ∙ append-nil (frameLines s)) (ap (λ (n : ℕ). advancedBy n s) one) (c .before .before .run .ensures)
 
 pub advance-spec : {M : Type 1} → statement M
 advance-spec = tie.close (tie.spec (λ c. search needs) (λ c κs. search needs) returns (λ c. search needs) (λ c κs. search needs) (λ c. search needs) returns-2)

@@ -1,25 +1,42 @@
-use mathlib.Core.Path.{sym, ap, _∙_}
-use Rattle.refusal.specs.Answer.{ofVerdict}
-use Rattle.server.specs.declared.Said.{Said}
-use Rattle.channel.specs.Lines.{linesOf}
-use Rattle.channel.specs.Verbs.{verbOutcome}
-use Rattle.channel.proofs.Answering.{answers-refused, answers-as}
+use Rattle.lists.proofs.Cases.{length-mapped}
+use Rattle.channel.proofs.Acting.{verb-allowed, verb-refused}
 use borrow.Author.Needs.{needs}
 use Rattle.channel.proofs.Channel.verb.Statement.{statement}
 use Rattle.channel.proofs.Channel.verb.Tie as tie
 
 returns : tie.Need-returns
 returns c =
-    let a = c .before .before .before .before .before .before .before .before .before .args in
-    let p = c .before .before .before .before .before .before .before .deed .ensures in
-    let none = ap ofVerdict (c .before .before .before .before .enum-told .given .1) in
-    answers-as (sym none ∙ p .number) (ap (linesOf (a .self .frame) (a .a)) (p .told none)) (p .channel none) (c .before .before .tell .ensures)
+    let a = c .before .before .before .before .before .before .before .before .before .before .before .before .before .before .before .before .args in
+    verb-allowed (a .self .state) (a .verb) (a .a) (a .b) (c .before .before .before .before .before .before .before .before .before .before .before .before .place-in .ensures) (c .before .before .before .before .before .before .before .before .before .before .before .second-place .ensures) (c .before .before .before .before .before .before .before .before .attempt .ensures) (c .before .before .before .before .before .before .judge .ensures) (c .before .before .before .before .tell .ensures) (c .enum-told .given .1)
 
 returns-2 : tie.Need-returns-2
 returns-2 c =
-    let a = c .before .before .before .before .before .before .before .args in
-    let o = verbOutcome (a .self) (a .verb) (a .a) (a .b) in
-    answers-refused (a .self) o (a .out .now) (c .refused .ensures) (sym (c .before .before .before .before .before .deed .ensures .number) ∙ ap ofVerdict (c .before .before .verdict .given .1))
+    let a = c .before .before .before .before .before .before .before .before .before .before .before .before .before .before .before .before .args in
+    verb-refused (a .self .state) (a .verb) (a .a) (a .b) (c .before .before .before .before .before .before .before .before .before .before .before .before .place-in .ensures) (c .before .before .before .before .before .before .before .before .before .before .before .second-place .ensures) (c .before .before .before .before .before .before .before .before .attempt .ensures) (c .before .before .before .before .before .before .judge .ensures) (c .before .before .before .before .tell .ensures) (c .enum-told2 .given .1)
 
 pub verb-spec : {M : Type 1} → statement M
-verb-spec = tie.close (tie.spec (λ c κs. search needs) (λ c. search needs) (λ c κs. search needs) (λ c. search needs) (λ c κs. search needs) (λ c. search needs) returns returns-2)
+verb-spec =
+    tie.close
+    (tie.spec
+    (λ c κs. search needs)
+    (λ c κs. search needs)
+    (λ c. search needs)
+    (λ c. search needs)
+    (λ c. search needs)
+    (λ c. search (needs, length-mapped))
+    (λ c. search needs)
+    (λ c κs. search needs)
+    (λ c. search needs)
+    (λ c. search (needs, length-mapped))
+    (λ c. search needs)
+    (λ c κs. search needs)
+    (λ c κs. search needs)
+    (λ c. search needs)
+    (λ c. search needs)
+    (λ c. search needs)
+    (λ c. search (needs, length-mapped))
+    (λ c. search needs)
+    (λ c. search needs)
+    returns
+    (λ c. search needs)
+    returns-2)

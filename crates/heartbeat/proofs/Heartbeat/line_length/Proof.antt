@@ -1,36 +1,28 @@
-use mathlib.Core.Path.{_≡_}
-use Prim.Native.Nat.{ℕ, _+_, _<_, _≤_, _^_}
 use native.Mathlib.Omega.{arith}
 use borrow.Author.Needs.{needs}
-use lib.ListN.{length}
-use Rattle.text.specs.Digits.{digits}
-use Rattle.text.proofs.Digits.{digits-few}
+use Rattle.text.proofs.Digits.{width-few}
 use Rattle.heartbeat.proofs.Line.{line-long}
 use Rattle.heartbeat.proofs.Heartbeat.line_length.Statement.{statement}
 use Rattle.heartbeat.proofs.Heartbeat.line_length.Tie as tie
 
--- no width is more than 20
-few : {r : ℕ} (n : ℕ) → r ≡ length (digits n) → n < 2 ^ 64 → r ≤ 20
-few n e h = omega (arith, digits-few 19 n (omega arith))
-
 add-result : tie.Need-add-result
 add-result c =
     let s = c .before .before .before .before .args .self in
-    omega (arith, few (s .bs) (c .before .before .width .ensures) (omega arith), few (s .priority) (c .width2 .ensures) (omega arith))
+    omega (arith, width-few (s .bs) (c .before .before .width .ensures) (omega arith), width-few (s .priority) (c .width2 .ensures) (omega arith))
 
 add-result-2 : tie.Need-add-result-2
 add-result-2 c =
     let s = c .before .before .before .before .before .before .args .self in
-    let bs = few (s .bs) (c .before .before .before .before .width .ensures) (omega arith) in
-    let priority = few (s .priority) (c .before .before .width2 .ensures) (omega arith) in
-    omega (arith, few (s .tiebreaker) (c .width3 .ensures) (omega arith))
+    let bs = width-few (s .bs) (c .before .before .before .before .width .ensures) (omega arith) in
+    let priority = width-few (s .priority) (c .before .before .width2 .ensures) (omega arith) in
+    omega (arith, width-few (s .tiebreaker) (c .width3 .ensures) (omega arith))
 
 add-result-3 : tie.Need-add-result-3
 add-result-3 c =
     let s = c .before .before .before .before .before .before .args .self in
-    let bs = few (s .bs) (c .before .before .before .before .width .ensures) (omega arith) in
-    let priority = few (s .priority) (c .before .before .width2 .ensures) (omega arith) in
-    omega (arith, few (s .tiebreaker) (c .width3 .ensures) (omega arith))
+    let bs = width-few (s .bs) (c .before .before .before .before .width .ensures) (omega arith) in
+    let priority = width-few (s .priority) (c .before .before .width2 .ensures) (omega arith) in
+    omega (arith, width-few (s .tiebreaker) (c .width3 .ensures) (omega arith))
 
 returns : tie.Need-returns
 returns c =

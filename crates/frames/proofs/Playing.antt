@@ -1,0 +1,215 @@
+-- Many frames. Assumes nothing.
+use mathlib.Core.Bool.{Bool, true, false, not, _&&_}
+use mathlib.Core.Path.{_≡_, refl, sym, ap, ap₂, subst, _∙_}
+use mathlib.Core.Logic.{_⊎_, inl, inr, ⊎-elim}
+use mathlib.Core.List.{List, [], _∷_, _++_, append-assoc, append-nil}
+use Prim.Native.Nat.{ℕ, zero, suc, _+_, _-_, _≤_, _<_}
+use native.Mathlib.Nat.{zero-add, suc-add}
+use native.Mathlib.Omega.{arith}
+use borrow.Author.Tests.{lt-ltb, le-ltb, ltb-true}
+use lib.Dec.{ltb}
+use lib.ListN.{length}
+use Rattle.lists.specs.Choice.{choose}
+use Rattle.lists.proofs.Cases.{less, chosen, other, fst-true, snd-true}
+use Rattle.server.specs.declared.Period.{Period}
+use Rattle.server.specs.declared.Server.{Server}
+use Rattle.group.specs.declared.State.{State}
+use Rattle.frames.specs.Steps.{Ran}
+use Rattle.frames.specs.Steps.{Stepped}
+use Rattle.group.specs.Frame.{advanced, frameLines, movedTo}
+use Rattle.group.specs.Advance.{advancedBy, linesBy}
+use Rattle.frames.specs.Steps.{Out, Still, Ranked, QuietTo, anySent, stateOf, Runs, TicksAll, Moves, AllRest, Before, Steps, Jumps, Goes}
+use Rattle.group.proofs.Places.{frame-after}
+use Rattle.frames.proofs.Writing.{Toward, start, begin, turn, finish}
+use Rattle.frames.proofs.Quiet.{ticks-frame, skip}
+use Rattle.frames.proofs.Still.{still-after, ranked-after}
+
+pub advanced-add : (k m : ℕ) (c : State) → advancedBy (k + m) c ≡ advancedBy m (advancedBy k c)
+unfolding advancedBy
+advanced-add zero m c = ap (λ (n : ℕ). advancedBy n c) (zero-add m)
+advanced-add (suc k) m c = ap (λ (n : ℕ). advancedBy n c) (suc-add k m) ∙ advanced-add k m (advanced c)
+
+pub lines-add : (k m : ℕ) (c : State) → linesBy (k + m) c ≡ linesBy k c ++ linesBy m (advancedBy k c)
+unfolding advancedBy linesBy
+lines-add zero m c = ap (λ (n : ℕ). linesBy n c) (zero-add m)
+lines-add (suc k) m c =
+    ap (λ (n : ℕ). linesBy n c) (suc-add k m) ∙ ap (λ (l : List ℕ). frameLines c ++ l) (lines-add k m (advanced c))
+    ∙ sym (append-assoc (frameLines c) (linesBy k (advanced c)) _)
+
+-- ---- steps
+
+-- one frame: the servers after it, and its lines
+pub one-step :
+    (c : State) {wet : Bool} {d : List ℕ} {at n : ℕ} {l : List Server} {d′ : List ℕ} → l ≡ advanced c .servers → Out wet d at (frameLines c) n d′ →
+    Steps wet 1 c d at (record { servers = l; frame = c .frame + 1; at = n }) d′
+unfolding advancedBy linesBy advanced
+one-step c e o = record { channel = ap (movedTo c (c .frame + 1)) e; out = rw (append-nil (frameLines c)) o }
+
+pub no-step : (c : State) {wet : Bool} {d : List ℕ} {at : ℕ} → Steps wet 0 c d at (record { servers = c .servers; frame = c .frame; at = at }) d
+unfolding advancedBy linesBy
+no-step c = record { channel = refl; out = start }
+
+-- a frame in which only timers run, after one in which nobody sent
+pub ticks-run :
+    (c : State) → anySent (c .servers) ≡ false → length (c .servers) ≡ 16 → {wet : Bool} {d : List ℕ} {at : ℕ} {r : Ran} {d′ : List ℕ} →
+    TicksAll wet (c .frame + 1) (c .period) (c .servers) d at r d′ → Runs wet c d at r d′
+ticks-run c quiet long {wet} {d} {at} {r} {d′} v =
+    let q = ticks-frame c quiet long in
+    record { servers = v .servers ∙ sym (q .0); out = subst (λ (x : List ℕ). Out wet d at x (r .at) d′) (sym (q .1)) (v .out) }
+
+-- the next frame, unless the target is reached
+module _ (c : State) (target : ℕ) {wet : Bool} {d : List ℕ} {at : ℕ} where
+  pub next-step :
+      {r : Ran} {d′ : List ℕ} → c .frame < target → Runs wet c d at r d′ →
+      Steps wet (choose (ltb (c .frame) target) 1 0) c d at (record { servers = r .servers; frame = c .frame + 1; at = r .at }) d′
+  next-step {r} {d′} h v =
+      subst (λ (k : ℕ). Steps wet k c d at (record { servers = r .servers; frame = c .frame + 1; at = r .at }) d′) (sym (chosen 0 (lt-ltb (c .frame) target h)))
+      (one-step c (v .servers) (v .out))
+
+  pub next-none : target ≤ c .frame → Steps wet (choose (ltb (c .frame) target) 1 0) c d at (record { servers = c .servers; frame = c .frame; at = at }) d
+  next-none h =
+      subst (λ (k : ℕ). Steps wet k c d at (record { servers = c .servers; frame = c .frame; at = at }) d) (sym (other 1 (le-ltb (c .frame) target h))) (no-step c)
+
+-- ---- over frames in which nothing happens
+
+-- to the present frame
+pub jump-none : (p : Period) (l : List Server) {t target loud : ℕ} → t ≤ target → Jumps p l t target loud t
+unfolding advancedBy linesBy
+jump-none p l {t} {target} h =
+    let z : t - t ≡ 0 = omega arith in
+    record {
+      from = omega arith;
+      to = h;
+      same = λ w. ap (λ (n : ℕ). advancedBy n (stateOf t p l w)) z;
+      silent = λ w. ap (λ (n : ℕ). linesBy n (stateOf t p l w)) z;
+    }
+
+-- to one before the first timer
+pub jump-quiet :
+    (p : Period) (l : List Server) {t target loud f r : ℕ} → anySent l ≡ false → length l ≡ 16 → AllRest t p l f → Before f t target r → Jumps p l t target loud r
+jump-quiet p l {t} {target} {loud} {f} {r} quiet long rest b =
+    let from = b .from in
+    let to = b .to in
+    let sum : t + (r - t) ≡ r = omega arith in
+    let near : (r - t ≡ 0) ⊎ (t + (r - t) < f) = ⊎-elim (λ e. inl (omega arith)) (λ g. inr (omega arith)) (b .early) in
+    record {
+      from = from;
+      to = to;
+      same = λ w. skip (r - t) (stateOf t p l w) f quiet long rest near .0 ∙ ap (λ (m : ℕ). stateOf m p l w) sum;
+      silent = λ w. skip (r - t) (stateOf t p l w) f quiet long rest near .1;
+    }
+
+-- the steps after a jump, from where it began
+pub jumped :
+    (c : State) {target loud s n : ℕ} {wet : Bool} {d : List ℕ} {at : ℕ} {r : Stepped} {d′ : List ℕ} → Jumps (c .period) (c .servers) (c .frame) target loud s →
+    Steps wet n (movedTo c s (c .servers)) d at r d′ → Steps wet ((s - c .frame) + n) c d at r d′
+jumped c {target} {loud} {s} {n} {wet} {d} {at} {r} {d′} j w =
+    let k = s - c .frame in
+    let there = j .same (c .whole) in
+    record {
+      channel = w .channel ∙ ap (advancedBy n) (sym there) ∙ sym (advanced-add k n c);
+      out =
+          subst (λ (x : List ℕ). Out wet d at x (r .at) d′)
+          (sym (lines-add k n c ∙ ap₂ (λ (x : List ℕ) (y : State). x ++ linesBy n y) (j .silent (c .whole)) there))
+          (w .out);
+    }
+
+-- a jump, and the next frame
+pub goes-jump :
+    (c : State) {target loud s : ℕ} {wet : Bool} {d : List ℕ} {at : ℕ} {r : Stepped} {d′ : List ℕ} → c .frame < target → Jumps (c .period) (c .servers) (c .frame) target loud s →
+    Steps wet (choose (ltb s target) 1 0) (movedTo c s (c .servers)) d at r d′ → Goes wet c target d at r d′
+goes-jump c {target} {loud} {s} {wet} {d} {at} {r} {d′} h j w =
+    let k = s - c .frame in
+    let from = j .from in
+    let to = j .to in
+    let n : ℕ = choose (ltb s target) 1 0 in
+    let there = j .same (c .whole) in
+    record {
+      count = k + n;
+      some =
+          ⊎-elim
+          (λ l. let o : n ≡ 1 = chosen 0 (lt-ltb s target l) in omega arith)
+          (λ l. omega arith)
+          (less s target);
+      within =
+          ⊎-elim
+          (λ l. let o : n ≡ 1 = chosen 0 (lt-ltb s target l) in omega arith)
+          (λ l. let o : n ≡ 0 = other 1 (le-ltb s target l) in omega arith)
+          (less s target);
+      steps = jumped c j w;
+    }
+
+-- ---- all frames up to the target: what is left from the frame t with the servers l is the rest of all from c on
+
+pub record Playing (wet : Bool) (c : State) (target : ℕ) (d₀ : List ℕ) (at₀ : ℕ) (d : List ℕ) (l : List Server) (t at : ℕ) : Type 0 where
+  pub rest : advancedBy (target - t) (movedTo c t l) ≡ advancedBy (target - c .frame) c
+  pub out : Toward wet d₀ at₀ (linesBy (target - c .frame) c) d at (linesBy (target - t) (movedTo c t l))
+
+frame-is : {c : State} {wet : Bool} {n : ℕ} {d : List ℕ} {at : ℕ} {r : Stepped} {d′ : List ℕ} → Steps wet n c d at r d′ → r .frame ≡ c .frame + n
+frame-is {c} {wet} {n} p = ap (λ (x : State). x .frame) (p .channel) ∙ frame-after n c
+
+pub play-less : {wet : Bool} {c : State} {target : ℕ} {d : List ℕ} {at : ℕ} {r : Stepped} {d′ : List ℕ} → c .frame < target → Goes wet c target d at r d′ → target - r .frame < target - c .frame
+play-less h g = let e = frame-is (g .steps) in let some = g .some in let within = g .within in omega arith
+
+module _ {wet : Bool} {c : State} {target : ℕ} {d₀ : List ℕ} {at₀ : ℕ} where
+  pub play-begin : Playing wet c target d₀ at₀ d₀ (c .servers) (c .frame) at₀
+  play-begin = record { rest = refl; out = begin refl }
+
+  pub play-turn :
+      {l : List Server} {t : ℕ} {d : List ℕ} {at : ℕ} {r : Stepped} {d′ : List ℕ} → Playing wet c target d₀ at₀ d l t at → length d′ ≡ length d →
+      Goes wet (movedTo c t l) target d at r d′ → Playing wet c target d₀ at₀ d′ (r .servers) (r .frame) (r .at)
+  play-turn {l} {t} {d} {at} {r} {d′} v same g =
+      let now = movedTo c t l in
+      let k = g .count in
+      let e : r .frame ≡ t + k = frame-is (g .steps) in
+      let within = g .within in
+      let m = target - r .frame in
+      let all : target - t ≡ k + m = omega arith in
+      record {
+        rest = ap (advancedBy m) (g .steps .channel) ∙ sym (advanced-add k m now) ∙ ap (λ (n : ℕ). advancedBy n now) (sym all) ∙ v .rest;
+        out =
+            turn (v .out)
+            (ap (λ (n : ℕ). linesBy n now) all ∙ lines-add k m now ∙ ap (λ (x : State). linesBy k now ++ linesBy m x) (sym (g .steps .channel)))
+            same (g .steps .out);
+      }
+
+  pub play-end :
+      {l : List Server} {t : ℕ} {d : List ℕ} {at : ℕ} {x : State} → Playing wet c target d₀ at₀ d l t at → target ≤ t → x ≡ movedTo c t l →
+      Moves wet (advancedBy (target - c .frame) c) (linesBy (target - c .frame) c) d₀ at₀ (record { state = x; at = at }) d
+  unfolding advancedBy linesBy
+  play-end {l} {t} {d} {at} {x} v h q =
+      let z : target - t ≡ 0 = omega arith in
+      record {
+        channel = q ∙ ap (λ (n : ℕ). advancedBy n (movedTo c t l)) (sym z) ∙ v .rest;
+        out = finish (v .out) (ap (λ (n : ℕ). linesBy n (movedTo c t l)) z);
+      }
+
+-- ---- after some frames: who was still is still, and the ranks are the same
+
+module _ {wet : Bool} {k : ℕ} {c : State} {d : List ℕ} {at : ℕ} {r : Stepped} {d′ : List ℕ} (p : Steps wet k c d at r d′) (long : length (c .servers) ≡ 16) where
+  servers-then : advancedBy k c .servers ≡ r .servers
+  servers-then = sym (ap (λ (x : State). x .servers) (p .channel))
+
+  pub steps-still : {n : ℕ} → Still n (c .servers) → Still n (r .servers)
+  steps-still {n} v = subst (Still n) servers-then (still-after k c long v)
+
+  pub steps-ranked : {v : List ℕ} → Ranked v (c .servers) → Ranked v (r .servers)
+  steps-ranked {v} q = subst (Ranked v) servers-then (ranked-after k c long q)
+
+-- ---- nothing at all
+
+not-so : (x : Bool) → not x ≡ true → x ≡ false
+not-so true z = sym z
+not-so false z = refl
+
+pub quiet-to :
+    (c : State) → length (c .servers) ≡ 16 → {b : Bool} {f t : ℕ} → b ≡ anySent (c .servers) → AllRest (c .frame) (c .period) (c .servers) f →
+    (ltb (c .frame) t && (not b && ltb t f)) ≡ true → QuietTo c t
+quiet-to c long {b} {f} {t} q rest e =
+    let ahead = ltb-true (c .frame) t (fst-true (ltb (c .frame) t) _ e) in
+    let more = snd-true (ltb (c .frame) t) _ e in
+    let quiet = sym q ∙ not-so b (fst-true (not b) _ more) in
+    let early = ltb-true t f (snd-true (not b) _ more) in
+    let sum : c .frame + (t - c .frame) ≡ t = omega arith in
+    let s = skip (t - c .frame) c f quiet long rest (inr (omega arith)) in
+    record { ahead = ahead; state = s .0 ∙ ap (λ (n : ℕ). movedTo c n (c .servers)) sum; lines = s .1 }

@@ -1,0 +1,1397 @@
+// One frame after another: what the servers hear, their timers, and the lines of it.
+use group::State;
+use heartbeat::Heartbeat;
+use refusal::Refusal;
+use refusal::Verdict;
+use server::Event;
+use server::Period;
+use server::Role;
+use server::Said;
+use server::Server;
+use server::Word;
+ghost use mathlib.Core.Path.{_≡_};
+ghost use mathlib.Core.Bool.{Bool};
+ghost use mathlib.Core.List.{[], _∷_};
+ghost use Prim.Native.Nat.{_+_, _-_, _<_, _≤_};
+ghost use lib.Dec.{leb, ltb, eqb};
+ghost use lib.ListN.{length, replicate, take, getD, set};
+ghost use Rattle.lists.specs.Choice.{choose};
+ghost use Rattle.server.specs.Server.{absent, setSilence, setBeat, oneMore, sendBeat, cleared, passOf, sentBy};
+ghost use Rattle.server.specs.Verbs.{roleNumber};
+ghost use Rattle.server.specs.Words.{said};
+ghost use Rattle.server.specs.Timers.{aged, timed};
+ghost use Rattle.lines.specs.Lines.{linesOf};
+ghost use Rattle.group.specs.Hearing.{isPlace};
+ghost use Rattle.group.specs.Frame.{timedLines, frameLines, movedTo};
+ghost use Rattle.group.specs.Advance.{advancedBy, linesBy, timeGoes, withinGoes};
+ghost use Rattle.group.specs.Answers.{Gives};
+ghost use Rattle.frames.specs.Words.{roleOf, rankNumber, sendingNumber, serverOf, serversOf};
+ghost use Rattle.frames.specs.Steps.{Out, Hears, Does, JustListens, TurnsAt, isBackup, isPrimary, onlyListens, senderOf, Ranked, isStill, Still, overBy, comesBy, bestBy, inboxBy, Listed, Numbers, Sends, Lists, Turns, ticksIn, stateOf, Runs, TicksAt, TicksAll, Moves, NotDue, Rests, AllRest, Before, Steps, Goes, anySent, QuietTo, Loud, Jumps, mostBytes, Fares, Stretches, MovesWithin};
+
+// The lines of an event, written or only counted.
+fn say_event(out: &mut [u8], wet: bool, at: usize, frame: u32, identity: u16, event: Event) -> usize
+    ensures { λ r. ⌜ Out wet (now (out .entry)) at (linesOf frame identity (said event)) r (now (out .exit)) ⌝ }
+{
+    let said = event.said();
+    match said {
+        Said::Nothing => at,
+        Said::One(w) => lines::say(out, wet, at, frame, identity, Said::One(w)),
+        Said::Two(v, w) => lines::say(out, wet, at, frame, identity, Said::Two(v, w)),
+    }
+}
+
+// ---- hearing
+
+// A server, and the place after what it said.
+struct Told {
+    server: Server,
+    at: usize,
+}
+
+fn hear_one(s: Server, frame: u32, h: Heartbeat, out: &mut [u8], wet: bool, at: usize) -> Told
+    ensures { λ r. ⌜ Hears frame wet s (h ∷ []) (now (out .entry)) at r (now (out .exit)) ⌝ }
+{
+    let heard = s.hear(frame, h);
+    let next = heard.server;
+    let event = heard.event;
+    let after = say_event(out, wet, at, frame, s.identity, event);
+    Told {
+        server: next,
+        at: after,
+    }
+}
+
+fn hear_beats(
+    s: Server,
+    frame: u32,
+    h: Heartbeat,
+    n: u8,
+    out: &mut [u8],
+    wet: bool,
+    at: usize,
+) -> Told
+    ensures { λ r. ⌜ Hears frame wet s (replicate n h) (now (out .entry)) at r (now (out .exit)) ⌝ }
+{
+    let mut now = s;
+    let mut r = at;
+    let mut k = 0;
+    while k < n {
+        let t = hear_one(now, frame, h, out, wet, r);
+        now = t.server;
+        r = t.at;
+        k += 1;
+    }
+    Told { server: now, at: r }
+}
+
+fn hear_if(
+    yes: bool,
+    s: Server,
+    frame: u32,
+    h: Heartbeat,
+    out: &mut [u8],
+    wet: bool,
+    at: usize,
+) -> Told
+    ensures { λ r. ⌜ Hears frame wet s (choose yes (h ∷ []) []) (now (out .entry)) at r (now (out .exit)) ⌝ }
+{
+    if yes {
+        hear_one(s, frame, h, out, wet, at)
+    } else {
+        Told { server: s, at }
+    }
+}
+
+fn hear_pass(s: Server, frame: u32, sender: Server, out: &mut [u8], wet: bool, at: usize) -> Told
+    ensures { λ r. ⌜ Hears frame wet s (choose (eqb (sender .pass) 0) [] (passOf sender ∷ [])) (now (out .entry)) at r (now (out .exit)) ⌝ }
+{
+    if sender.pass == 0 {
+        Told { server: s, at }
+    } else {
+        hear_one(s, frame, sender.passing(), out, wet, at)
+    }
+}
+
+// One sender's heartbeats, in the order sent.
+fn hear_each(s: Server, frame: u32, sender: Server, out: &mut [u8], wet: bool, at: usize) -> Told
+    ensures { λ r. ⌜ Hears frame wet s (sentBy sender) (now (out .entry)) at r (now (out .exit)) ⌝ }
+{
+    let a = hear_beats(s, frame, sender.plain(), sender.beats, out, wet, at);
+    let b = hear_if(
+        sender.reveal,
+        a.server,
+        frame,
+        sender.revealing(),
+        out,
+        wet,
+        a.at,
+    );
+    hear_pass(b.server, frame, sender, out, wet, b.at)
+}
+
+fn is_backup(role: Role) -> bool
+    ensures { λ r. ⌜ r ≡ isBackup role ⌝ }
+{
+    match role {
+        Role::Down => false,
+        Role::Idle => false,
+        Role::Sync => false,
+        Role::Backup => true,
+        Role::Prospect => false,
+        Role::Primary => false,
+    }
+}
+
+// A backup that hears plain beats only says nothing.
+fn only_listens(s: Server, sender: Server) -> bool
+    ensures { λ r. ⌜ r ≡ onlyListens s sender ⌝ }
+{
+    let role = s.role;
+    is_backup(role) & ((sender.beats != 0) & (!sender.reveal & (sender.pass == 0)))
+}
+
+// The silence timer set.
+fn listened(s: Server, frame: u32) -> Server
+    ensures { λ r. ⌜ r ≡ setSilence frame s ⌝ }
+{
+    let mut next = s;
+    next.silence = frame;
+    next
+}
+
+// One sender's heartbeats; where a backup hears plain beats, one is as good as all.
+fn hear_sender(s: Server, frame: u32, sender: Server, out: &mut [u8], wet: bool, at: usize) -> Told
+    ensures { λ r. ⌜ Hears frame wet s (sentBy sender) (now (out .entry)) at r (now (out .exit)) ⌝ }
+{
+    if only_listens(s, sender) {
+        let next = listened(s, frame);
+        Told { server: next, at }
+    } else {
+        hear_each(s, frame, sender, out, wet, at)
+    }
+}
+
+fn run_timers(s: Server, frame: u32, period: Period, out: &mut [u8], wet: bool, at: usize) -> Told
+    ensures { λ r. ⌜ Does wet (timed frame period s .server) (timedLines frame (s .identity) (timed frame period s)) (now (out .entry)) at r (now (out .exit)) ⌝ }
+{
+    let t = s.timers(frame, period);
+    let next = t.server;
+    let silent = t.silent;
+    let beating = t.beating;
+    let rising = t.rising;
+    let a = say_event(out, wet, at, frame, s.identity, silent);
+    let b = say_event(out, wet, a, frame, s.identity, beating);
+    let r = say_event(out, wet, b, frame, s.identity, rising);
+    Told {
+        server: next,
+        at: r,
+    }
+}
+
+fn one_more(n: u8) -> u8
+    ensures { λ r. ⌜ r ≡ oneMore n ⌝ }
+{
+    if n < 15 { n + 1 } else { 15 }
+}
+
+// A beat sent, and the beat timer set.
+fn beaten(s: Server, frame: u32) -> Server
+    ensures { λ r. ⌜ r ≡ sendBeat (setBeat frame s) ⌝ }
+{
+    let mut next = s;
+    next.beat = frame;
+    next.beats = one_more(s.beats);
+    next
+}
+
+fn is_primary(role: Role) -> bool
+    ensures { λ r. ⌜ r ≡ isPrimary role ⌝ }
+{
+    match role {
+        Role::Down => false,
+        Role::Idle => false,
+        Role::Sync => false,
+        Role::Backup => false,
+        Role::Prospect => false,
+        Role::Primary => true,
+    }
+}
+
+// The timers of a server of which one is due: a primary beats.
+fn run_due(s: Server, frame: u32, period: Period, out: &mut [u8], wet: bool, at: usize) -> Told
+    requires { ⌜ ticksIn (s .role) frame period s ≡ Bool.true ⌝ }
+    ensures { λ r. ⌜ Does wet (timed frame period s .server) (timedLines frame (s .identity) (timed frame period s)) (now (out .entry)) at r (now (out .exit)) ⌝ }
+{
+    let role = s.role;
+    if is_primary(role) {
+        let after = lines::say(out, wet, at, frame, s.identity, Said::One(Word::Beat));
+        let next = beaten(s, frame);
+        Told {
+            server: next,
+            at: after,
+        }
+    } else {
+        run_timers(s, frame, period, out, wet, at)
+    }
+}
+
+// ---- servers as numbers
+
+fn role_number(role: Role) -> u32
+    ensures { λ r. ⌜ r ≡ roleNumber role ⌝ }
+{
+    match role {
+        Role::Down => 0,
+        Role::Idle => 1,
+        Role::Sync => 2,
+        Role::Backup => 3,
+        Role::Prospect => 4,
+        Role::Primary => 5,
+    }
+}
+
+fn role_of(n: u32) -> Role
+    ensures { λ r. ⌜ r ≡ roleOf n ⌝ }
+{
+    match n {
+        0 => Role::Down,
+        1 => Role::Idle,
+        2 => Role::Sync,
+        3 => Role::Backup,
+        4 => Role::Prospect,
+        _ => Role::Primary,
+    }
+}
+
+// The greater the number, the higher the server.
+fn rank_number(s: Server) -> u32
+    ensures { λ r. ⌜ (r ≡ rankNumber s) × ((s .identity < 65536) × (s .priority < 256)) ⌝ }
+{
+    (s.priority as u32) * 65536 + (s.identity as u32)
+}
+
+fn flag(set: bool) -> u32
+    ensures { λ r. ⌜ r ≡ choose set 1 0 ⌝ }
+{
+    if set { 1 } else { 0 }
+}
+
+// 0 where nothing was sent.
+fn sending_number(s: Server) -> u32
+    ensures { λ r. ⌜ (r ≡ sendingNumber s) × ((s .beats < 256) × (s .pass < 65536)) ⌝ }
+{
+    ((s.beats as u32) * 2 + flag(s.reveal)) * 65536 + (s.pass as u32)
+}
+
+fn server_of(head: u32, silence: u32, beat: u32, prospect: u32, sending: u32) -> Server
+    ensures { λ r. ⌜ r ≡ serverOf head silence beat prospect sending ⌝ }
+{
+    Server {
+        identity: (head % 65536) as u16,
+        priority: (head / 65536 % 256) as u8,
+        role: role_of(head / 16777216),
+        silence,
+        beat,
+        prospect,
+        beats: (sending / 131072 % 256) as u8,
+        reveal: sending / 65536 % 2 == 1,
+        pass: (sending % 65536) as u16,
+    }
+}
+
+// The server of place i.
+fn server_at(words: &[u32; 80], i: usize) -> Server
+    requires { ⌜ i < 16 ⌝ }
+    ensures { λ r. ⌜ r ≡ getD (serversOf (now (words .entry))) i absent ⌝ }
+{
+    let k = 5 * i;
+    server_of(
+        words[k],
+        words[k + 1],
+        words[k + 2],
+        words[k + 3],
+        words[k + 4],
+    )
+}
+
+// The server of place i replaced.
+fn store(words: &mut [u32; 80], i: usize, s: Server)
+    requires { ⌜ (length (now words) ≡ 80) × (i < 16) ⌝ }
+    ensures { λ _. ⌜ (length (now (words .exit)) ≡ 80) × (serversOf (now (words .exit)) ≡ set (serversOf (now (words .entry))) i s) ⌝ }
+{
+    let k = 5 * i;
+    let role = s.role;
+    let head = role_number(role) * 16777216 + rank_number(s);
+    let sending = sending_number(s);
+    words[k] = head;
+    words[k + 1] = s.silence;
+    words[k + 2] = s.beat;
+    words[k + 3] = s.prospect;
+    words[k + 4] = sending;
+}
+
+fn words_of(servers: [Server; 16]) -> [u32; 80]
+    ensures { λ r. ⌜ serversOf r ≡ servers ⌝ }
+{
+    let mut words: [u32; 80] = [0; 80];
+    let mut i: usize = 0;
+    while i < 16 {
+        store(&mut words, i, servers[i]);
+        i += 1;
+    }
+    words
+}
+
+fn servers_of(words: &[u32; 80]) -> [Server; 16]
+    ensures { λ r. ⌜ r ≡ serversOf (now (words .entry)) ⌝ }
+{
+    let nobody = Server::absent();
+    let mut servers = [nobody; 16];
+    let mut i: usize = 0;
+    while i < 16 {
+        let s = server_at(words, i);
+        servers[i] = s;
+        i += 1;
+    }
+    servers
+}
+
+fn ranks_of(servers: [Server; 16]) -> [u32; 16]
+    ensures { λ r. ⌜ Ranked r servers ⌝ }
+{
+    let mut ranks: [u32; 16] = [0; 16];
+    let mut i: usize = 0;
+    while i < 16 {
+        let rank = rank_number(servers[i]);
+        ranks[i] = rank;
+        i += 1;
+    }
+    ranks
+}
+
+// ---- who does nothing until a verb
+
+// Neither hears nor has a timer, and sent nothing.
+fn is_still(s: Server) -> bool
+    ensures { λ r. ⌜ r ≡ isStill s ⌝ }
+{
+    let role = s.role;
+    match role {
+        Role::Down => !s.sent_any(),
+        Role::Idle => !s.sent_any(),
+        Role::Sync => !s.sent_any(),
+        Role::Backup => false,
+        Role::Prospect => false,
+        Role::Primary => false,
+    }
+}
+
+// From this place on, all are still: they are left out of every loop.
+fn still_from(servers: [Server; 16]) -> usize
+    ensures { λ r. ⌜ Still r servers ⌝ }
+{
+    let mut n: usize = 16;
+    while n > 0 {
+        if !is_still(servers[n - 1]) {
+            return n;
+        }
+        n -= 1;
+    }
+    n
+}
+
+// ---- who is heard next
+
+// A state, and the place after the lines that led to it.
+struct Moved {
+    state: State,
+    at: usize,
+}
+
+fn one_if(n: u32) -> usize
+    ensures { λ r. ⌜ r ≡ choose (eqb n 0) 0 1 ⌝ }
+{
+    if n == 0 { 0 } else { 1 }
+}
+
+// The places of the first n that sent, in rising order: how many they are, and of every place what it sent, as one number.
+fn list_senders(
+    words: &[u32; 80],
+    places: &mut [usize; 16],
+    sendings: &mut [u32; 16],
+    n: usize,
+) -> usize
+    requires { ⌜ Still n (serversOf (now words)) × ((length (now places) ≡ 16) × (now sendings ≡ replicate 16 0)) ⌝ }
+    ensures { λ r. ⌜ Sends (serversOf (now (words .entry))) (now (places .exit)) (now (sendings .exit)) r ⌝ }
+{
+    let mut count: usize = 0;
+    let mut i: usize = 0;
+    while i < n {
+        let sending = sending_number(server_at(words, i));
+        sendings[i] = sending;
+        places[count] = i;
+        count += one_if(sending);
+        i += 1;
+    }
+    count
+}
+
+// A server that sent the same: the rest of it is not looked at.
+fn sender(rank: u32, sending: u32) -> Server
+    requires { ⌜ (rank < 16777216) × (sending < 33554432) ⌝ }
+    ensures { λ r. ⌜ r ≡ senderOf rank sending ⌝ }
+{
+    Server {
+        identity: (rank % 65536) as u16,
+        priority: (rank / 65536) as u8,
+        role: Role::Down,
+        silence: 0,
+        beat: 0,
+        prospect: 0,
+        beats: (sending / 131072) as u8,
+        reveal: sending / 65536 % 2 == 1,
+        pass: (sending % 65536) as u16,
+    }
+}
+
+// Place i comes after the place last.
+fn under_last(ranks: &[u32; 16], last: usize, i: usize) -> bool
+    requires { ⌜ i < 16 ⌝ }
+    ensures { λ r. ⌜ r ≡ choose (isPlace last) (overBy (now (ranks .entry)) last i) Bool.true ⌝ }
+{
+    if last < 16 {
+        ranks[last] > ranks[i]
+    } else {
+        true
+    }
+}
+
+// Place i comes before the best so far.
+fn over_best(ranks: &[u32; 16], best: usize, i: usize) -> bool
+    requires { ⌜ i < 16 ⌝ }
+    ensures { λ r. ⌜ r ≡ choose (isPlace best) (overBy (now (ranks .entry)) i best) Bool.true ⌝ }
+{
+    if best < 16 {
+        ranks[i] > ranks[best]
+    } else {
+        true
+    }
+}
+
+// Of place i, which is heard, and the best so far.
+fn better_of(ranks: &[u32; 16], last: usize, best: usize, i: usize) -> usize
+    requires { ⌜ i < 16 ⌝ }
+    ensures { λ r. ⌜ r ≡ choose (comesBy (now (ranks .entry)) Bool.true last best i) i best ⌝ }
+{
+    if under_last(ranks, last, i) & over_best(ranks, best, i) {
+        i
+    } else {
+        best
+    }
+}
+
+fn better(ranks: &[u32; 16], heard: bool, last: usize, best: usize, i: usize) -> usize
+    requires { ⌜ i < 16 ⌝ }
+    ensures { λ r. ⌜ r ≡ choose (comesBy (now (ranks .entry)) heard last best i) i best ⌝ }
+{
+    if heard {
+        better_of(ranks, last, best, i)
+    } else {
+        best
+    }
+}
+
+// The next place that place j hears after the place last, or 16.
+fn next_sender(
+    places: &[usize; 16],
+    ranks: &[u32; 16],
+    whole: &[bool; 256],
+    count: usize,
+    j: usize,
+    last: usize,
+) -> usize
+    requires { ⌜ (j < 16) × Listed (now places) count ⌝ }
+    ensures { λ r. ⌜ r ≡ bestBy (now (ranks .entry)) (now (whole .entry)) j last 16 (take count (now (places .entry))) ⌝ }
+{
+    let mut best: usize = 16;
+    let mut k: usize = 0;
+    while k < count {
+        let i = places[k];
+        let heard = (i != j) & whole[16 * i + j];
+        best = better(ranks, heard, last, best, i);
+        k += 1;
+    }
+    best
+}
+
+// What place j hears where one place sent.
+fn hear_only(
+    places: &[usize; 16],
+    ranks: &[u32; 16],
+    sendings: &[u32; 16],
+    whole: &[bool; 256],
+    frame: u32,
+    j: usize,
+    s: Server,
+    out: &mut [u8],
+    wet: bool,
+    at: usize,
+) -> Told
+    requires { ⌜ (j < 16) × Numbers (record { places = now places; ranks = now ranks; sendings = now sendings; count = 1 }) ⌝ }
+    ensures { λ r. ⌜ Hears frame wet s (inboxBy (record { places = now (places .entry); ranks = now (ranks .entry); sendings = now (sendings .entry); count = 1 }) (now (whole .entry)) j) (now (out .entry)) at r (now (out .exit)) ⌝ }
+{
+    let i = places[0];
+    if (i != j) & whole[16 * i + j] {
+        let from = sender(ranks[i], sendings[i]);
+        hear_sender(s, frame, from, out, wet, at)
+    } else {
+        Told { server: s, at }
+    }
+}
+
+// What place j hears, from the highest sender to the lowest.
+fn hear_several(
+    places: &[usize; 16],
+    ranks: &[u32; 16],
+    sendings: &[u32; 16],
+    whole: &[bool; 256],
+    count: usize,
+    frame: u32,
+    j: usize,
+    s: Server,
+    out: &mut [u8],
+    wet: bool,
+    at: usize,
+) -> Told
+    requires { ⌜ (j < 16) × Numbers (record { places = now places; ranks = now ranks; sendings = now sendings; count = count }) ⌝ }
+    ensures { λ r. ⌜ Hears frame wet s (inboxBy (record { places = now (places .entry); ranks = now (ranks .entry); sendings = now (sendings .entry); count = count }) (now (whole .entry)) j) (now (out .entry)) at r (now (out .exit)) ⌝ }
+{
+    let mut now = s;
+    let mut r = at;
+    let mut last: usize = 16;
+    let mut k: usize = 0;
+    while k < 16 {
+        let i = next_sender(places, ranks, whole, count, j, last);
+        if i >= 16 {
+            return Told { server: now, at: r };
+        }
+        let from = sender(ranks[i], sendings[i]);
+        let t = hear_each(now, frame, from, out, wet, r);
+        now = t.server;
+        r = t.at;
+        last = i;
+        k += 1;
+    }
+    Told { server: now, at: r }
+}
+
+// All that place j hears.
+fn hear_all(
+    places: &[usize; 16],
+    ranks: &[u32; 16],
+    sendings: &[u32; 16],
+    whole: &[bool; 256],
+    count: usize,
+    frame: u32,
+    j: usize,
+    s: Server,
+    out: &mut [u8],
+    wet: bool,
+    at: usize,
+) -> Told
+    requires { ⌜ (j < 16) × Numbers (record { places = now places; ranks = now ranks; sendings = now sendings; count = count }) ⌝ }
+    ensures { λ r. ⌜ Hears frame wet s (inboxBy (record { places = now (places .entry); ranks = now (ranks .entry); sendings = now (sendings .entry); count = count }) (now (whole .entry)) j) (now (out .entry)) at r (now (out .exit)) ⌝ }
+{
+    if count == 1 {
+        hear_only(places, ranks, sendings, whole, frame, j, s, out, wet, at)
+    } else {
+        hear_several(
+            places,
+            ranks,
+            sendings,
+            whole,
+            count,
+            frame,
+            j,
+            s,
+            out,
+            wet,
+            at,
+        )
+    }
+}
+
+// Whether a timer set in `since` has the age.
+fn aged(since: u32, age: u32, frame: u32) -> bool
+    ensures { λ r. ⌜ r ≡ aged since age frame ⌝ }
+{
+    (since as u64) + (age as u64) == (frame as u64)
+}
+
+// Whether some timer of the server is due.
+fn ticks(s: Server, period: Period, frame: u32) -> bool
+    ensures { λ r. ⌜ r ≡ ticksIn (s .role) frame period s ⌝ }
+{
+    let role = s.role;
+    match role {
+        Role::Down => false,
+        Role::Idle => false,
+        Role::Sync => false,
+        Role::Backup => aged(s.silence, period.silence_limit(), frame),
+        Role::Prospect => {
+            aged(s.beat, period.beat_limit(), frame)
+                | aged(s.prospect, period.prospect_limit(), frame)
+        }
+        Role::Primary => aged(s.beat, period.beat_limit(), frame),
+    }
+}
+
+// The timers of the frame.
+fn tick(s: Server, frame: u32, period: Period, out: &mut [u8], wet: bool, at: usize) -> Told
+    ensures { λ r. ⌜ Does wet (timed frame period s .server) (timedLines frame (s .identity) (timed frame period s)) (now (out .entry)) at r (now (out .exit)) ⌝ }
+{
+    if ticks(s, period, frame) {
+        run_timers(s, frame, period, out, wet, at)
+    } else {
+        Told { server: s, at }
+    }
+}
+
+// The server of place j in the frame: hearing, then timers.
+fn turn(
+    places: &[usize; 16],
+    ranks: &[u32; 16],
+    sendings: &[u32; 16],
+    whole: &[bool; 256],
+    count: usize,
+    frame: u32,
+    period: Period,
+    j: usize,
+    s: Server,
+    out: &mut [u8],
+    wet: bool,
+    at: usize,
+) -> Told
+    requires { ⌜ (j < 16) × Numbers (record { places = now places; ranks = now ranks; sendings = now sendings; count = count }) ⌝ }
+    ensures { λ r. ⌜ Turns (inboxBy (record { places = now (places .entry); ranks = now (ranks .entry); sendings = now (sendings .entry); count = count }) (now (whole .entry)) j) frame period wet s (now (out .entry)) at r (now (out .exit)) ⌝ }
+{
+    let heard = hear_all(
+        places,
+        ranks,
+        sendings,
+        whole,
+        count,
+        frame,
+        j,
+        s.cleared(),
+        out,
+        wet,
+        at,
+    );
+    tick(heard.server, frame, period, out, wet, heard.at)
+}
+
+// Place j is a backup that hears plain beats of one sender, and no timer of it is due then.
+fn just_listens(
+    places: &[usize; 16],
+    ranks: &[u32; 16],
+    sendings: &[u32; 16],
+    whole: &[bool; 256],
+    count: usize,
+    frame: u32,
+    period: Period,
+    j: usize,
+    s: Server,
+) -> bool
+    requires { ⌜ (j < 16) × Numbers (record { places = now places; ranks = now ranks; sendings = now sendings; count = count }) ⌝ }
+    ensures { λ r. ⌜ (r ≡ Bool.true → JustListens (inboxBy (record { places = now (places .entry); ranks = now (ranks .entry); sendings = now (sendings .entry); count = count }) (now (whole .entry)) j) frame period s) ⌝ }
+{
+    if count == 1 {
+        let i = places[0];
+        let from = sender(ranks[i], sendings[i]);
+        ((i != j) & whole[16 * i + j])
+            & (only_listens(s, from) & !aged(frame, period.silence_limit(), frame))
+    } else {
+        false
+    }
+}
+
+// The silence timer of place j set, and nothing sent.
+fn listen_at(words: &mut [u32; 80], j: usize, frame: u32)
+    requires { ⌜ (length (now words) ≡ 80) × (j < 16) ⌝ }
+    ensures { λ _. ⌜ (length (now (words .exit)) ≡ 80) × (serversOf (now (words .exit)) ≡ set (serversOf (now (words .entry))) j (setSilence frame (cleared (getD (serversOf (now (words .entry))) j absent)))) ⌝ }
+{
+    let k = 5 * j;
+    words[k + 1] = frame;
+    words[k + 4] = 0;
+}
+
+// The turn of place j.
+fn turn_at(
+    words: &mut [u32; 80],
+    places: &[usize; 16],
+    ranks: &[u32; 16],
+    sendings: &[u32; 16],
+    whole: &[bool; 256],
+    count: usize,
+    frame: u32,
+    period: Period,
+    j: usize,
+    out: &mut [u8],
+    wet: bool,
+    at: usize,
+) -> usize
+    requires { ⌜ (length (now words) ≡ 80) × ((j < 16) × Numbers (record { places = now places; ranks = now ranks; sendings = now sendings; count = count })) ⌝ }
+    ensures { λ r. ⌜ (length (now (words .exit)) ≡ 80) × TurnsAt (inboxBy (record { places = now (places .entry); ranks = now (ranks .entry); sendings = now (sendings .entry); count = count }) (now (whole .entry)) j) frame period wet (serversOf (now (words .entry))) j (now (out .entry)) at (record { servers = serversOf (now (words .exit)); at = r }) (now (out .exit)) ⌝ }
+{
+    let s = server_at(words, j);
+    if just_listens(places, ranks, sendings, whole, count, frame, period, j, s) {
+        listen_at(words, j, frame);
+        at
+    } else {
+        let t = turn(
+            places,
+            ranks,
+            sendings,
+            whole,
+            count,
+            frame,
+            period,
+            j,
+            s,
+            out,
+            wet,
+            at,
+        );
+        store(words, j, t.server);
+        t.at
+    }
+}
+
+// The heart of the frame: the first n servers, each after its turn.
+fn turns(
+    words: &mut [u32; 80],
+    places: &[usize; 16],
+    ranks: &[u32; 16],
+    sendings: &[u32; 16],
+    whole: &[bool; 256],
+    count: usize,
+    period: Period,
+    n: usize,
+    before: u32,
+    out: &mut [u8],
+    wet: bool,
+    at: usize,
+) -> usize
+    requires { ⌜ (length (now words) ≡ 80) × ((before < 4294967295) × (Still n (serversOf (now words)) × Lists (serversOf (now words)) (record { places = now places; ranks = now ranks; sendings = now sendings; count = count }))) ⌝ }
+    ensures { λ r. ⌜ (length (now (words .exit)) ≡ 80) × Runs wet (stateOf before period (serversOf (now (words .entry))) (now (whole .entry))) (now (out .entry)) at (record { servers = serversOf (now (words .exit)); at = r }) (now (out .exit)) ⌝ }
+{
+    let frame = before + 1;
+    let mut r = at;
+    let mut j: usize = 0;
+    while j < n {
+        r = turn_at(
+            words,
+            places,
+            ranks,
+            sendings,
+            whole,
+            count,
+            frame,
+            period,
+            j,
+            out,
+            wet,
+            r,
+        );
+        j += 1;
+    }
+    r
+}
+
+// The timers of the server at place j, if one is due.
+fn tick_at(
+    words: &mut [u32; 80],
+    j: usize,
+    period: Period,
+    frame: u32,
+    out: &mut [u8],
+    wet: bool,
+    at: usize,
+) -> usize
+    requires { ⌜ (length (now words) ≡ 80) × (j < 16) ⌝ }
+    ensures { λ r. ⌜ (length (now (words .exit)) ≡ 80) × TicksAt wet frame period (serversOf (now (words .entry))) j (now (out .entry)) at (record { servers = serversOf (now (words .exit)); at = r }) (now (out .exit)) ⌝ }
+{
+    let s = server_at(words, j);
+    if ticks(s, period, frame) {
+        let t = run_due(s, frame, period, out, wet, at);
+        store(words, j, t.server);
+        t.at
+    } else {
+        at
+    }
+}
+
+// The first n servers in a frame in which nothing is heard.
+fn tick_all(
+    words: &mut [u32; 80],
+    period: Period,
+    n: usize,
+    before: u32,
+    out: &mut [u8],
+    wet: bool,
+    at: usize,
+) -> usize
+    requires { ⌜ (length (now words) ≡ 80) × ((before < 4294967295) × Still n (serversOf (now words))) ⌝ }
+    ensures { λ r. ⌜ (length (now (words .exit)) ≡ 80) × TicksAll wet (before + 1) period (serversOf (now (words .entry))) (now (out .entry)) at (record { servers = serversOf (now (words .exit)); at = r }) (now (out .exit)) ⌝ }
+{
+    let frame = before + 1;
+    let mut r = at;
+    let mut j: usize = 0;
+    while j < n {
+        r = tick_at(words, j, period, frame, out, wet, r);
+        j += 1;
+    }
+    r
+}
+
+fn greater(a: u32, b: u32) -> u32
+    ensures { λ r. ⌜ (a ≤ r) × (b ≤ r) ⌝ }
+{
+    if a <= b { b } else { a }
+}
+
+// No server sent a greater number; so nobody sent where it is 0.
+fn loudest(words: &[u32; 80], n: usize) -> u32
+    requires { ⌜ Still n (serversOf (now words)) ⌝ }
+    ensures { λ r. ⌜ Loud (serversOf (now (words .entry))) r ⌝ }
+{
+    let mut most: u32 = 0;
+    let mut i: usize = 0;
+    while i < n {
+        let sending = sending_number(server_at(words, i));
+        most = greater(most, sending);
+        i += 1;
+    }
+    most
+}
+
+// ---- quiet frames
+
+// The frame in which a timer is due, where it is after the present one; else the greatest number.
+fn due(since: u32, limit: u32, frame: u32) -> u32
+    ensures { λ r. ⌜ NotDue since limit frame r ⌝ }
+{
+    let at = (since as u64) + (limit as u64);
+    if at <= (frame as u64) {
+        return 4294967295;
+    }
+    if at > 4294967295 {
+        return 4294967295;
+    }
+    at as u32
+}
+
+fn earlier(a: u32, b: u32) -> u32
+    ensures { λ r. ⌜ r ≡ choose (leb a b) a b ⌝ }
+{
+    if a <= b { a } else { b }
+}
+
+// No timer of the server is due after the present frame and before the answer.
+fn wakes(s: Server, period: Period, frame: u32) -> u32
+    ensures { λ r. ⌜ Rests frame period s r ⌝ }
+{
+    let role = s.role;
+    match role {
+        Role::Down => 4294967295,
+        Role::Idle => 4294967295,
+        Role::Sync => 4294967295,
+        Role::Backup => due(s.silence, period.silence_limit(), frame),
+        Role::Prospect => earlier(
+            due(s.beat, period.beat_limit(), frame),
+            due(s.prospect, period.prospect_limit(), frame),
+        ),
+        Role::Primary => due(s.beat, period.beat_limit(), frame),
+    }
+}
+
+// No timer of any server is due after the present frame and before the answer.
+fn next_due(words: &[u32; 80], period: Period, n: usize, frame: u32) -> u32
+    requires { ⌜ Still n (serversOf (now words)) ⌝ }
+    ensures { λ r. ⌜ AllRest frame period (serversOf (now (words .entry))) r ⌝ }
+{
+    let mut first: u32 = 4294967295;
+    let mut i: usize = 0;
+    while i < n {
+        let s = server_at(words, i);
+        first = earlier(first, wakes(s, period, frame));
+        i += 1;
+    }
+    first
+}
+
+// The last frame up to the target before the first one that is due.
+fn skipped(first: u32, frame: u32, target: u32) -> u32
+    requires { ⌜ frame < target ⌝ }
+    ensures { λ r. ⌜ Before first frame target r ⌝ }
+{
+    if first > target {
+        target
+    } else if first <= frame + 1 {
+        frame
+    } else {
+        first - 1
+    }
+}
+
+// ---- nothing at all
+
+fn any_sent(servers: [Server; 16]) -> bool
+    ensures { λ r. ⌜ r ≡ anySent servers ⌝ }
+{
+    let mut i: usize = 0;
+    while i < 16 {
+        let s = servers[i];
+        if s.sent_any() {
+            return true;
+        }
+        i += 1;
+    }
+    false
+}
+
+// No timer of any server is due after the present frame and before the answer.
+fn first_due(servers: [Server; 16], period: Period, frame: u32) -> u32
+    ensures { λ r. ⌜ AllRest frame period servers r ⌝ }
+{
+    let mut first: u32 = 4294967295;
+    let mut i: usize = 0;
+    while i < 16 {
+        let s = servers[i];
+        first = earlier(first, wakes(s, period, frame));
+        i += 1;
+    }
+    first
+}
+
+// Nothing happens up to the target, which is ahead.
+fn is_quiet(state: State, target: u32) -> bool
+    ensures { λ r. ⌜ (r ≡ Bool.true → QuietTo state target) ⌝ }
+{
+    let servers = state.servers;
+    let period = state.period;
+    let quiet = !any_sent(servers);
+    let first = first_due(servers, period, state.frame);
+    (state.frame < target) & (quiet & (target < first))
+}
+
+// ---- many frames
+
+// The frame reached, and the place after the lines that led there.
+struct Reached {
+    frame: u32,
+    at: usize,
+}
+
+// Over the frames in which nothing happens: to the last of them, or to the target.
+fn jump(words: &[u32; 80], period: Period, n: usize, loud: u32, frame: u32, target: u32) -> u32
+    requires { ⌜ (frame < target) × (Still n (serversOf (now words)) × Loud (serversOf (now words)) loud) ⌝ }
+    ensures { λ r. ⌜ Jumps period (serversOf (now (words .entry))) frame target loud r ⌝ }
+{
+    if loud == 0 {
+        let first = next_due(words, period, n, frame);
+        skipped(first, frame, target)
+    } else {
+        frame
+    }
+}
+
+// One frame after one in which somebody sent.
+fn heard_frame(
+    words: &mut [u32; 80],
+    ranks: [u32; 16],
+    whole: &[bool; 256],
+    period: Period,
+    n: usize,
+    before: u32,
+    out: &mut [u8],
+    wet: bool,
+    at: usize,
+) -> usize
+    requires { ⌜ (length (now words) ≡ 80) × ((before < 4294967295) × (Still n (serversOf (now words)) × Ranked ranks (serversOf (now words)))) ⌝ }
+    ensures { λ r. ⌜ (length (now (words .exit)) ≡ 80) × Runs wet (stateOf before period (serversOf (now (words .entry))) (now (whole .entry))) (now (out .entry)) at (record { servers = serversOf (now (words .exit)); at = r }) (now (out .exit)) ⌝ }
+{
+    let mut places: [usize; 16] = [0; 16];
+    let mut sendings: [u32; 16] = [0; 16];
+    let count = list_senders(words, &mut places, &mut sendings, n);
+    turns(
+        words,
+        &places,
+        &ranks,
+        &sendings,
+        whole,
+        count,
+        period,
+        n,
+        before,
+        out,
+        wet,
+        at,
+    )
+}
+
+// One frame.
+fn play_frame(
+    words: &mut [u32; 80],
+    ranks: [u32; 16],
+    whole: &[bool; 256],
+    period: Period,
+    n: usize,
+    loud: u32,
+    before: u32,
+    out: &mut [u8],
+    wet: bool,
+    at: usize,
+) -> usize
+    requires { ⌜ (length (now words) ≡ 80) × ((before < 4294967295) × ((Still n (serversOf (now words)) × Ranked ranks (serversOf (now words))) × Loud (serversOf (now words)) loud)) ⌝ }
+    ensures { λ r. ⌜ (length (now (words .exit)) ≡ 80) × Runs wet (stateOf before period (serversOf (now (words .entry))) (now (whole .entry))) (now (out .entry)) at (record { servers = serversOf (now (words .exit)); at = r }) (now (out .exit)) ⌝ }
+{
+    if loud == 0 {
+        tick_all(words, period, n, before, out, wet, at)
+    } else {
+        heard_frame(words, ranks, whole, period, n, before, out, wet, at)
+    }
+}
+
+// The next frame, unless the target is reached.
+fn play_next(
+    words: &mut [u32; 80],
+    ranks: [u32; 16],
+    whole: &[bool; 256],
+    period: Period,
+    n: usize,
+    loud: u32,
+    frame: u32,
+    target: u32,
+    out: &mut [u8],
+    wet: bool,
+    at: usize,
+) -> Reached
+    requires { ⌜ (length (now words) ≡ 80) × ((Still n (serversOf (now words)) × Ranked ranks (serversOf (now words))) × Loud (serversOf (now words)) loud) ⌝ }
+    ensures { λ r. ⌜ (length (now (words .exit)) ≡ 80) × Steps wet (choose (ltb frame target) 1 0) (stateOf frame period (serversOf (now (words .entry))) (now (whole .entry))) (now (out .entry)) at (record { servers = serversOf (now (words .exit)); frame = r .frame; at = r .at }) (now (out .exit)) ⌝ }
+{
+    if frame < target {
+        let after = play_frame(words, ranks, whole, period, n, loud, frame, out, wet, at);
+        Reached {
+            frame: frame + 1,
+            at: after,
+        }
+    } else {
+        Reached { frame, at }
+    }
+}
+
+// Some frames more, up to the target: those in which nothing happens are jumped over.
+fn step(
+    words: &mut [u32; 80],
+    ranks: [u32; 16],
+    whole: &[bool; 256],
+    period: Period,
+    n: usize,
+    frame: u32,
+    target: u32,
+    out: &mut [u8],
+    wet: bool,
+    at: usize,
+) -> Reached
+    requires { ⌜ (length (now words) ≡ 80) × ((frame < target) × (Still n (serversOf (now words)) × Ranked ranks (serversOf (now words)))) ⌝ }
+    ensures { λ r. ⌜ (length (now (words .exit)) ≡ 80) × Goes wet (stateOf frame period (serversOf (now (words .entry))) (now (whole .entry))) target (now (out .entry)) at (record { servers = serversOf (now (words .exit)); frame = r .frame; at = r .at }) (now (out .exit)) ⌝ }
+{
+    let loud = loudest(words, n);
+    let start = jump(words, period, n, loud, frame, target);
+    play_next(
+        words,
+        ranks,
+        whole,
+        period,
+        n,
+        loud,
+        start,
+        target,
+        out,
+        wet,
+        at,
+    )
+}
+
+// All frames up to the target.
+fn play(state: State, target: u32, out: &mut [u8], wet: bool) -> Moved
+    ensures { λ r. ⌜ Moves wet (advancedBy (target - state .frame) state) (linesBy (target - state .frame) state) (now (out .entry)) 0 r (now (out .exit)) ⌝ }
+{
+    let whole = state.whole;
+    let period = state.period;
+    let servers = state.servers;
+    let n = still_from(servers);
+    let ranks = ranks_of(servers);
+    let mut words = words_of(servers);
+    let mut frame = state.frame;
+    let mut at: usize = 0;
+    while frame < target {
+        let m = step(
+            &mut words,
+            ranks,
+            &whole,
+            period,
+            n,
+            frame,
+            target,
+            out,
+            wet,
+            at,
+        );
+        frame = m.frame;
+        at = m.at;
+    }
+    let after = servers_of(&words);
+    let state = state.moved(frame, after);
+    Moved { state, at }
+}
+
+// What an advance answers: where it is refused, nothing written and the same state.
+pub struct Advance {
+    pub verdict: Verdict,
+    pub written: usize,
+    pub state: State,
+}
+
+// To the target, or 9; where the target is not after the present frame, nothing happens.
+fn run_frames(state: State, target: u32, out: &mut [u8]) -> Advance
+    ensures { λ r. ⌜ Gives state (timeGoes state target) (now (out .entry)) (r .verdict) (r .written) (r .state) (now (out .exit)) ⌝ }
+{
+    let counted = play(state, target, out, false);
+    if counted.at > out.len() {
+        return Advance {
+            verdict: Verdict::Refused(Refusal::Short),
+            written: 0,
+            state,
+        };
+    }
+    let played = play(state, target, out, true);
+    let next = played.state;
+    Advance {
+        verdict: Verdict::Accepted,
+        written: played.at,
+        state: next,
+    }
+}
+
+// ---- as many frames as fit
+
+// No frame writes more bytes: 27 to a line, two lines for each heartbeat heard and each timer, 16 senders of so many heartbeats, 16 servers.
+fn most_bytes(loud: u32) -> usize
+    ensures { λ r. ⌜ r ≡ mostBytes loud ⌝ }
+{
+    let beats = (loud / 131072) as usize;
+    16 * (54 * (16 * (beats + 2)) + 162)
+}
+
+// The place after the next frame's lines, which are not written.
+fn count_frame(
+    words: &[u32; 80],
+    ranks: [u32; 16],
+    whole: &[bool; 256],
+    period: Period,
+    n: usize,
+    loud: u32,
+    before: u32,
+    out: &mut [u8],
+    at: usize,
+) -> usize
+    requires { ⌜ (before < 4294967295) × ((Still n (serversOf (now words)) × Ranked ranks (serversOf (now words))) × Loud (serversOf (now words)) loud) ⌝ }
+    ensures { λ r. ⌜ Out Bool.false (now (out .entry)) at (frameLines (stateOf before period (serversOf (now (words .entry))) (now (whole .entry)))) r (now (out .exit)) ⌝ }
+{
+    let servers = servers_of(words);
+    let mut copy = words_of(servers);
+    play_frame(
+        &mut copy,
+        ranks,
+        whole,
+        period,
+        n,
+        loud,
+        before,
+        out,
+        false,
+        at,
+    )
+}
+
+// Whether the next frame's lines fit. They are counted only where that is not clear.
+fn frame_fits(
+    words: &[u32; 80],
+    ranks: [u32; 16],
+    whole: &[bool; 256],
+    period: Period,
+    n: usize,
+    loud: u32,
+    before: u32,
+    out: &mut [u8],
+    at: usize,
+) -> bool
+    requires { ⌜ (at ≤ length (now out)) × ((before < 4294967295) × ((Still n (serversOf (now words)) × Ranked ranks (serversOf (now words))) × Loud (serversOf (now words)) loud)) ⌝ }
+    ensures { λ r. ⌜ (r ≡ leb (at + length (frameLines (stateOf before period (serversOf (now (words .entry))) (now (whole .entry))))) (length (now (out .entry)))) × (now (out .exit) ≡ now (out .entry)) ⌝ }
+{
+    if most_bytes(loud) <= out.len() - at {
+        return true;
+    }
+    let after = count_frame(words, ranks, whole, period, n, loud, before, out, at);
+    after <= out.len()
+}
+
+// The frame reached, the place after the lines that led there, and whether the next frame's lines do not fit.
+struct Stretched {
+    frame: u32,
+    at: usize,
+    full: bool,
+}
+
+// The next frame, if it fits.
+fn play_fitting(
+    words: &mut [u32; 80],
+    ranks: [u32; 16],
+    whole: &[bool; 256],
+    period: Period,
+    n: usize,
+    loud: u32,
+    frame: u32,
+    out: &mut [u8],
+    at: usize,
+) -> Stretched
+    requires { ⌜ (length (now words) ≡ 80) × ((at ≤ length (now out)) × ((frame < 4294967295) × ((Still n (serversOf (now words)) × Ranked ranks (serversOf (now words))) × Loud (serversOf (now words)) loud))) ⌝ }
+    ensures { λ r. ⌜ (length (now (words .exit)) ≡ 80) × Fares (stateOf frame period (serversOf (now (words .entry))) (now (whole .entry))) (now (out .entry)) at (serversOf (now (words .exit))) r (now (out .exit)) ⌝ }
+{
+    if frame_fits(words, ranks, whole, period, n, loud, frame, out, at) {
+        let after = play_frame(words, ranks, whole, period, n, loud, frame, out, true, at);
+        Stretched {
+            frame: frame + 1,
+            at: after,
+            full: false,
+        }
+    } else {
+        Stretched {
+            frame,
+            at,
+            full: true,
+        }
+    }
+}
+
+// Some frames more, up to the target, as long as they fit.
+fn stretch(
+    words: &mut [u32; 80],
+    ranks: [u32; 16],
+    whole: &[bool; 256],
+    period: Period,
+    n: usize,
+    frame: u32,
+    target: u32,
+    out: &mut [u8],
+    at: usize,
+) -> Stretched
+    requires { ⌜ (length (now words) ≡ 80) × ((at ≤ length (now out)) × ((frame < target) × (Still n (serversOf (now words)) × Ranked ranks (serversOf (now words))))) ⌝ }
+    ensures { λ r. ⌜ (length (now (words .exit)) ≡ 80) × Stretches (stateOf frame period (serversOf (now (words .entry))) (now (whole .entry))) target (now (out .entry)) at (serversOf (now (words .exit))) r (now (out .exit)) ⌝ }
+{
+    let loud = loudest(words, n);
+    let start = jump(words, period, n, loud, frame, target);
+    if start < target {
+        play_fitting(words, ranks, whole, period, n, loud, start, out, at)
+    } else {
+        Stretched {
+            frame: start,
+            at,
+            full: false,
+        }
+    }
+}
+
+// As many frames towards the target as fit.
+fn play_within(state: State, target: u32, out: &mut [u8]) -> Moved
+    ensures { λ r. ⌜ MovesWithin state target (now (out .entry)) r (now (out .exit)) ⌝ }
+{
+    let whole = state.whole;
+    let period = state.period;
+    let servers = state.servers;
+    let n = still_from(servers);
+    let ranks = ranks_of(servers);
+    let mut words = words_of(servers);
+    let mut frame = state.frame;
+    let mut at: usize = 0;
+    let mut full = false;
+    while (frame < target) & !full {
+        let m = stretch(&mut words, ranks, &whole, period, n, frame, target, out, at);
+        frame = m.frame;
+        at = m.at;
+        full = m.full;
+    }
+    let after = servers_of(&words);
+    let state = state.moved(frame, after);
+    Moved { state, at }
+}
+
+// As many single advances towards the target as fit, or 9.
+fn run_fitting(state: State, target: u32, out: &mut [u8]) -> Advance
+    ensures { λ r. ⌜ Gives state (withinGoes state target (length (now (out .entry)))) (now (out .entry)) (r .verdict) (r .written) (r .state) (now (out .exit)) ⌝ }
+{
+    let played = play_within(state, target, out);
+    let next = played.state;
+    if (state.frame < target) & (next.frame == state.frame) {
+        return Advance {
+            verdict: Verdict::Refused(Refusal::Short),
+            written: 0,
+            state,
+        };
+    }
+    Advance {
+        verdict: Verdict::Accepted,
+        written: played.at,
+        state: next,
+    }
+}
+
+// ---- advances
+
+// Another frame, and nothing else.
+fn hop(state: State, target: u32) -> Advance
+    ensures { λ r. ⌜ r ≡ record { verdict = Verdict.Accepted; written = 0; state = movedTo state target (state .servers) } ⌝ }
+{
+    let mut next = state;
+    next.frame = target;
+    Advance {
+        verdict: Verdict::Accepted,
+        written: 0,
+        state: next,
+    }
+}
+
+// All frames up to the target, or 9.
+pub fn run(state: State, target: u32, out: &mut [u8]) -> Advance
+    ensures { λ r. ⌜ Gives state (timeGoes state target) (now (out .entry)) (r .verdict) (r .written) (r .state) (now (out .exit)) ⌝ }
+{
+    if is_quiet(state, target) {
+        hop(state, target)
+    } else {
+        run_frames(state, target, out)
+    }
+}
+
+// As many single advances towards the target as fit; 9 where there are some to make and not one fits.
+pub fn run_within(state: State, target: u32, out: &mut [u8]) -> Advance
+    ensures { λ r. ⌜ Gives state (withinGoes state target (length (now (out .entry)))) (now (out .entry)) (r .verdict) (r .written) (r .state) (now (out .exit)) ⌝ }
+{
+    if is_quiet(state, target) {
+        hop(state, target)
+    } else {
+        run_fitting(state, target, out)
+    }
+}

@@ -1,0 +1,10 @@
+pub mod Tables
+pub mod Made
+pub mod Answering
+pub mod Places
+pub mod Next
+pub mod Senders
+pub mod Inbox
+pub mod Heard
+pub mod Laws
+pub mod Opening

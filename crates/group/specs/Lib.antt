@@ -1,0 +1,9 @@
+pub mod Outcome
+pub mod Table
+pub mod Hearing
+pub mod Frame
+pub mod Verbs
+pub mod Advance
+pub mod Calls
+pub mod Laws
+pub mod Answers
