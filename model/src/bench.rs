@@ -219,15 +219,21 @@ pub struct Sum {
 
 impl Sum {
     pub fn new() -> Sum {
-        Sum { bytes: 0, check: 0xCBF2_9CE4_8422_2325 }
+        Sum { bytes: 0, check: FNV_START }
     }
 
     pub fn add(&mut self, number: u8, written: &[u8]) {
         self.bytes += written.len() as u64;
-        for &byte in [number].iter().chain(written) {
-            self.check = (self.check ^ u64::from(byte)).wrapping_mul(0x0000_0100_0000_01B3);
-        }
+        self.check = fnv(fnv(self.check, &[number]), written);
     }
+}
+
+pub const FNV_START: u64 = 0xCBF2_9CE4_8422_2325;
+
+/// FNV-1a of 64 bits, carried on over further bytes.
+pub fn fnv(check: u64, bytes: &[u8]) -> u64 {
+    let step = |check: u64, &byte: &u8| (check ^ u64::from(byte)).wrapping_mul(0x0100_0000_01B3);
+    bytes.iter().fold(check, step)
 }
 
 /// The best of three runs in place, the refused calls, and the sum of a fourth run.

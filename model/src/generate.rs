@@ -684,7 +684,7 @@ fn full_day(rng: &mut Rng, turn: u64) -> Vec<u8> {
 
 /// Stands in the place of the `period` line.
 #[rustfmt::skip]
-const PERIODS: &[&str] = &[
+pub const PERIODS: &[&str] = &[
     "period", "period\t", "period\t1", "period\t0", "period\t02", "period\t251", "period\t+5",
     "period\t-5", "period\t5 ", "period\t5\r", "period\t5\t", "period\t5\t6", "Period\t5",
     "period 5", "period\t5\0", "period\t0x5", "period\t4294967298", "period\t18446744073709551618",
@@ -694,7 +694,7 @@ const PERIODS: &[&str] = &[
 
 /// Stands before or in the place of a `server` line. {A} is in the table, {X} is not.
 #[rustfmt::skip]
-const SERVERS: &[&str] = &[
+pub const SERVERS: &[&str] = &[
     "server", "server\t{X}", "server\t{X}\t256", "server\t{X}\t999", "server\t0\t1",
     "server\t65536\t1", "server\t{X}\t01", "server\t{X}\t00", "server\t{X}\t", "server\t\t1",
     "server\t\t", "server\t0{X}\t1", "server\t{X}\t5\t", "server\t{X}\t5\t6", "server\t{X}\t5\r",
@@ -706,7 +706,7 @@ const SERVERS: &[&str] = &[
 /// Stand before an entry or `end`, by the number they get. {T} is the time of that line, {L} is
 /// later, {B} is in the table too.
 #[rustfmt::skip]
-const FORMS: &[&str] = &[
+pub const FORMS: &[&str] = &[
     "", "foo", "foo\tbar", "\t", "{T}", "{T}\t", "{T}\tstart", "{T}\tstart\t{A}\t{B}",
     "{T}\tstart\t{A}\t", "{T}\tpass\t{A}", "{T}\tpass\t{A}\t{B}\t{B}", "{T}\tcut\t{A}\t{B}\t",
     "{T}\tcut", "{T}\tmend\t{A}", "{T}\tSTART\t{A}", "{T} start {A}", "{T}\tend\t{A}",
@@ -716,7 +716,7 @@ const FORMS: &[&str] = &[
     "{L}\tready", "{T}\t\t{A}", "server\t0", "{T}\trestarts\t{A}", "{T}\tpass\t{A}\t{B}\t",
 ];
 #[rustfmt::skip]
-const NUMBERS: &[&str] = &[
+pub const NUMBERS: &[&str] = &[
     "{T}\tstart\t0", "{T}\tstart\t", "{T}\tstart\t65536", "{T}\tcrash\t0{A}", "{T}\tcrash\t+{A}",
     "{T}\tcrash\t{A} ", "{T}\tcrash\t{A}\r", "{T}\tcut\t0\t{A}", "{T}\tcut\t{A}\t0",
     "{T}\tcut\t{A}\t", "{T}\tcut\t\t{A}", "{T}\tmend\t{A}\t65536", "{T}\tpass\t{X}\t0",
@@ -725,7 +725,7 @@ const NUMBERS: &[&str] = &[
     "{L}\tready\t0", "{L}\tcut\t{X}\t65536", "00:00:00:00\tpass\t{A}\t0", "{T}\tpass\t{A}\t-1",
 ];
 #[rustfmt::skip]
-const TIMES: &[&str] = &[
+pub const TIMES: &[&str] = &[
     "24:00:00:00\tstart\t{A}", "23:60:00:00\tstart\t{A}", "23:59:60:00\tstart\t{A}",
     "23:59:59:25\tstart\t{A}", "0:00:00:00\tstart\t{A}", "00:00:00\tstart\t{A}",
     "000:0:00:00\tstart\t{A}", "00:00:00:0\tstart\t{A}", "00:00:00:000\tstart\t{A}",
@@ -736,13 +736,13 @@ const TIMES: &[&str] = &[
     "{T}0\tcut\t65536\t{A}", "\tready\t0", "00:00:60:00\tpass\t{A}\t", "00:00:00:99\tcrash\t{X}",
 ];
 #[rustfmt::skip]
-const PLACES: &[&str] = &[
+pub const PLACES: &[&str] = &[
     "period\t5", "server\t{X}\t5", "server\t{A}\t5",
     // an end too early: the lines after it are out of place
     "end\t{T}",
 ];
 #[rustfmt::skip]
-const IDENTITIES: &[&str] = &[
+pub const IDENTITIES: &[&str] = &[
     "{T}\tstart\t{X}", "{T}\tpass\t{A}\t{X}", "{T}\tpass\t{X}\t{A}", "{T}\tpass\t{A}\t{A}",
     "{T}\tcut\t{X}\t{A}", "{T}\tcut\t{A}\t{X}", "{T}\tcut\t{A}\t{A}", "{T}\tmend\t{A}\t{A}",
     "{T}\tmend\t{X}\t{X}", "{T}\trestart\t{X}", "00:00:00:00\tstart\t{X}",
@@ -754,11 +754,22 @@ const ENTRIES: &[&[&str]] = &[FORMS, NUMBERS, TIMES, PLACES, IDENTITIES, IDENTIT
 
 /// Stands after `end`.
 #[rustfmt::skip]
-const AFTER_END: &[&str] = &[
+pub const AFTER_END: &[&str] = &[
     "{T}\tstart\t{A}", "end\t{T}", "period\t5", "server\t{X}\t1", "server\t{A}\t1", "garbage", "",
     "\t", "{T}\tstart\t{X}", "24:00:00:00\tstart\t{A}", "end\t00:00:00:00", "{T}\tstart\t0",
     "end\t24:00:00:00", "23:59:59:24\tcut\t{A}\t{A}", "period\t1", "00:00:00:00\tcrash\t{A}", "end",
 ];
+
+/// A line from one of the lists above.
+pub fn filled(template: &str, time: &str, later: &str, known: (u16, u16), unknown: u16) -> Vec<u8> {
+    template
+        .replace("{L}", later)
+        .replace("{T}", time)
+        .replace("{A}", &known.0.to_string())
+        .replace("{B}", &known.1.to_string())
+        .replace("{X}", &unknown.to_string())
+        .into_bytes()
+}
 
 fn some_fault(rng: &mut Rng) -> &'static &'static str {
     let list = *rng.pick(ENTRIES);
@@ -791,13 +802,7 @@ fn spoil(rng: &mut Rng, script: Script) -> Vec<u8> {
         let time = if first == "end" { fields.next().unwrap_or("") } else { first };
         let frame = read_timecode(time.as_bytes()).unwrap_or(0) + later;
         let later = write_timecode(frame.min(LAST_FRAME)).expect("within the day");
-        template
-            .replace("{L}", &later)
-            .replace("{T}", time)
-            .replace("{A}", &known[0].to_string())
-            .replace("{B}", &second.to_string())
-            .replace("{X}", &unknown.to_string())
-            .into_bytes()
+        filled(template, time, &later, (known[0], second), unknown)
     };
     match rng.below(32) {
         0 | 1 => lines[0] = fill(rng.pick(PERIODS), b""),

@@ -1,5 +1,5 @@
 //! A model of the playout group: days in, sheets out, and lists of calls with their answers,
-//! written apart from the engine.
+//! written apart from the engine; and what sets other programs against it.
 
 mod bench;
 mod calls;
@@ -10,23 +10,32 @@ mod fast;
 mod generate;
 mod lists;
 mod long;
+mod program;
 mod script;
+mod special;
 mod text;
+mod vectors;
 
 #[cfg(test)]
 mod list_tests;
 #[cfg(test)]
 mod tests;
+#[cfg(test)]
+mod vector_tests;
 
 use std::io::{self, Read, Write};
 use std::process::ExitCode;
 
 const USAGE: &str = "usage: model sheet | fast | day SEED | long SERVERS PERIOD GAP | check N |\n\
-    \x20      lists SEED N | calls | check-calls | bench-list CASE | time CASE\n\
+    \x20      vectors SEED N | compare PROGRAM N SEED | lists SEED N | calls | check-calls |\n\
+    \x20      bench-list CASE | time CASE\n\
     sheet, fast   a day on standard input, its sheet on standard output\n\
     day           a day made from a seed\n\
     long          a whole day, period at least the servers, gap 1 or more\n\
     check         sheet against fast for seeds 1 to N\n\
+    vectors       N days with their sheets in one file: those made by hand, others from seeds\n\
+    compare       what PROGRAM prints for N days from SEED on, against their sheets; status 1 if\n\
+    \x20             one differs, 2 if PROGRAM cannot be run\n\
     lists         N short lists of calls made from a seed\n\
     calls         lists of calls on standard input, their answers on standard output\n\
     check-calls   the plain answers against fast, for lists on standard input\n\
@@ -48,6 +57,19 @@ fn main() -> ExitCode {
             print(&long::long_day(servers as u32, period as u32, gap as u32))
         }
         (["check", _], &[count]) => return check(count),
+        (["vectors", _, _], &[seed, count]) => match vectors::vectors(seed, count as usize) {
+            Ok(days) => print(&vectors::write(&days)),
+            Err(least) => Err(io::Error::new(
+                io::ErrorKind::InvalidInput,
+                format!("{least} days are made by hand: ask for {least} or more"),
+            )),
+        },
+        (["compare", program, count, seed], _) => {
+            return match (count.parse(), seed.parse()) {
+                (Ok(count), Ok(seed)) => compare_with(program, count, seed),
+                _ => usage(),
+            }
+        }
         (["lists", _, _], &[seed, count]) => {
             print(&calls::write(&lists::lists(seed, count).concat()))
         }
@@ -119,6 +141,18 @@ fn print(bytes: &[u8]) -> io::Result<()> {
     let mut out = io::stdout().lock();
     out.write_all(bytes)?;
     out.flush()
+}
+
+/// Stops at the first day whose sheet by the program differs.
+fn compare_with(program: &str, count: u64, seed: u64) -> ExitCode {
+    match program::compare(program, count, seed) {
+        Ok(true) => ExitCode::SUCCESS,
+        Ok(false) => ExitCode::FAILURE,
+        Err(message) => {
+            eprintln!("model: {message}");
+            ExitCode::from(2)
+        }
+    }
 }
 
 /// Stops at the first seed whose two sheets differ.

@@ -165,3 +165,24 @@ pub fn join(lines: &[Vec<u8>]) -> Vec<u8> {
     }
     text
 }
+
+/// The lines of a day or sheet with their times as frames: `@8` is 00:00:00:08. Spaces stand for
+/// tabs; empty lines are left out.
+pub fn timed(text: &str) -> String {
+    let mut lines = String::new();
+    for line in text.lines().map(str::trim).filter(|line| !line.is_empty()) {
+        for (at, word) in line.split(' ').enumerate() {
+            if at > 0 {
+                lines.push(' ');
+            }
+            match word.strip_prefix('@') {
+                Some(frame) => {
+                    lines += &write_timecode(frame.parse().expect("a frame")).expect("in the day")
+                }
+                None => lines += word,
+            }
+        }
+        lines.push('\n');
+    }
+    lines
+}

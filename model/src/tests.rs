@@ -1,6 +1,7 @@
 //! Days worked by hand, wrong readings, and the points that the paper leaves open.
 //! In the days and sheets here spaces stand for tabs.
 
+use crate::script::timed;
 use crate::text::{
     read_heartbeat, read_timecode, write_heartbeat, write_timecode, Heartbeat, LAST_FRAME,
 };
@@ -18,26 +19,6 @@ fn sheet_of(input: &[u8]) -> String {
 /// The sheet of a day, with spaces for tabs in both.
 fn play(day: &str) -> String {
     sheet_of(day.replace(' ', "\t").as_bytes()).replace('\t', " ")
-}
-
-/// A day with its times as frames within the first second: `@8` is 00:00:00:08.
-fn timed(text: &str) -> String {
-    let mut lines = String::new();
-    for line in text.lines().map(str::trim).filter(|line| !line.is_empty()) {
-        for (at, word) in line.split(' ').enumerate() {
-            if at > 0 {
-                lines.push(' ');
-            }
-            match word.strip_prefix('@') {
-                Some(frame) => {
-                    lines += &write_timecode(frame.parse().expect("a frame")).expect("in the day")
-                }
-                None => lines += word,
-            }
-        }
-        lines.push('\n');
-    }
-    lines
 }
 
 /// The day's sheet is the header and these lines.

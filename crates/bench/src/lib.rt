@@ -2,6 +2,7 @@
 use channel::Channel;
 use group::Table;
 ghost use mathlib.Core.Path.{_≡_};
+ghost use Rattle.channel.specs.Answers.{state};
 ghost use Rattle.bench.specs.Bench.{tableOf, OneStep, DayRuns, DayEnds};
 
 // The table of the servers, an identity and a priority each; those that are refused are left out.
@@ -25,7 +26,7 @@ fn table_of(servers: &[u64]) -> Table
 
 // A verb, or the advance towards a time, by its number; it is lent the whole slice.
 fn one(channel: Channel, n: u64, out: &mut [u8]) -> Channel
-    ensures { λ r. ⌜ OneStep (channel .state) n (now (out .entry)) (r .state) (now (out .exit)) ⌝ }
+    ensures { λ r. ⌜ OneStep (state channel) n (now (out .entry)) (state r) (now (out .exit)) ⌝ }
 {
     let kind = n % 10;
     let about = n / 10;
@@ -42,7 +43,7 @@ fn one(channel: Channel, n: u64, out: &mut [u8]) -> Channel
 
 // One after the other.
 fn day(channel: Channel, steps: &[u64], out: &mut [u8]) -> Channel
-    ensures { λ r. ⌜ DayRuns (channel .state) (now (steps .entry)) (now (out .entry)) (r .state) (now (out .exit)) ⌝ }
+    ensures { λ r. ⌜ DayRuns (state channel) (now (steps .entry)) (now (out .entry)) (state r) (now (out .exit)) ⌝ }
 {
     let mut now = channel;
     let mut i: usize = 0;
@@ -63,5 +64,5 @@ pub extern "C" fn bench_day(servers: &[u64], period: u32, steps: &[u64], out: &m
     let opened = Channel::fresh(table, period);
     let channel = opened.channel;
     let ended = day(channel, steps, out);
-    ended.state.frame
+    ended.frame()
 }

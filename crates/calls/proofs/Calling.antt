@@ -13,6 +13,7 @@ use Rattle.lists.specs.Choice.{choose}
 use Rattle.lists.proofs.Cases.{tested, less, chosen, other}
 use Rattle.group.specs.declared.State.{State}
 use Rattle.channel.specs.declared.Answer.{Answer}
+use Rattle.channel.specs.Answers.{state}
 use Rattle.group.specs.Outcome.{Outcome, numberIn, channelIn, sliceIn}
 use Rattle.group.specs.Verbs.{verbOutcome}
 use Rattle.group.specs.Advance.{stepOutcome, timeOutcome}
@@ -95,7 +96,7 @@ module _ (m : ℕ) (d : List ℕ) where
 
 pub one-call :
     (c : State) (k m : ℕ) (d : List ℕ) {e : ℕ} {r : Answer} {s d′ : List ℕ} → e ≡ lesser m (length d) →
-    Gives c (outcomeOf c (callOf k (take e d))) (take e d) (r .verdict) (r .written) (r .channel .state) s → d′ ≡ s ++ drop e d → OneCall c k m d r d′
+    Gives c (outcomeOf c (callOf k (take e d))) (take e d) (r .verdict) (r .written) (state (r .channel)) s → d′ ≡ s ++ drop e d → OneCall c k m d r d′
 unfolding callNumber callChannel callSlice
 one-call c k m d {e} {r} {s} {d′} q p f =
     let these : take e d ≡ take m d = ap (λ (n : ℕ). take n d) q ∙ first-bytes m d in

@@ -12,13 +12,14 @@ use Rattle.lists.proofs.Cases.{chosen, other}
 use Rattle.refusal.specs.declared.Refusal.{Refusal}
 use Rattle.refusal.specs.declared.Refusal.the-variants.{Short}
 use Rattle.refusal.specs.declared.Verdict.the-variants.{Accepted, Refused}
-use Rattle.refusal.specs.Answer.{numberOf}
+use Rattle.refusal.specs.Answer.{numberOf, ofVerdict}
 use Rattle.refusal.proofs.Answers.{number-some}
 use Rattle.heartbeat.specs.declared.Rank.{Rank}
 use Rattle.server.specs.Period.{takePeriod}
 use Rattle.group.specs.declared.Table.{Table}
 use Rattle.group.specs.declared.State.{State}
 use Rattle.channel.specs.declared.Channel.{Channel}
+use Rattle.channel.specs.Answers.{state}
 use Rattle.group.specs.Table.{most, empty, tableOf, freshRefusal, fresh}
 use Rattle.group.specs.Answers.{noChannel}
 use Rattle.group.specs.Calls.{channelAfter}
@@ -28,7 +29,7 @@ use Rattle.settling.proofs.Demand.{settles}
 use Rattle.calls.specs.declared.Ended.{Ended}
 use Rattle.calls.specs.Encoding.{callsOf}
 use Rattle.calls.specs.Running.{listed, listRefusal, RunsList}
-use Rattle.calls.specs.Steps.{ListRuns}
+use Rattle.calls.specs.Steps.{ListRuns, Unopened}
 use Rattle.calls.proofs.Going.{how-many}
 use Rattle.calls.proofs.Encoded.{every-list-encodes}
 
@@ -39,37 +40,37 @@ no-channel-is {t} {x} e q = e ∙ ap (λ (y : Table). choose (eqb (freshRefusal 
 
 module _ (t : Table) (n : ℕ) (ks d e : List ℕ) where
   -- a list that is refused
-  ends-not : (k : Refusal) {r : Ended} → listRefusal t n ks d e ≡ numberOf k → r ≡ record { verdict = Refused k; channel = record { state = noChannel } } → RunsList t n ks d e r d e
+  ends-not : (k : Refusal) {r : Ended} → listRefusal t n ks d e ≡ numberOf k → Unopened k r → RunsList t n ks d e r d e
   ends-not k {r} q p =
       let some : eqb (listRefusal t n ks d e) 0 ≡ false = ne-eqb (listRefusal t n ks d e) 0 (λ z. omega (arith, number-some k)) in
-      rw p
-      (record {
-        number = sym q;
-        channel = sym (other _ some);
+      let number : ofVerdict (r .verdict) ≡ numberOf k = ap ofVerdict (p .verdict) in
+      record {
+        number = number ∙ sym q;
+        channel = p .channel ∙ sym (other _ some);
         numbers = sym (other _ some);
         bytes = sym (other _ some);
         encodes = every-list-encodes;
-        settles = λ rs same z. absurd (omega (arith, number-some k));
-      })
+        settles = λ rs same z. absurd (omega (arith, number, number-some k));
+      }
 
   -- 2, 6, 7
-  pub ends-unopened : {k : Refusal} {r : Ended} → r ≡ record { verdict = Refused k; channel = record { state = noChannel } } → freshRefusal t n ≡ numberOf k → RunsList t n ks d e r d e
+  pub ends-unopened : {k : Refusal} {r : Ended} → Unopened k r → freshRefusal t n ≡ numberOf k → RunsList t n ks d e r d e
   unfolding listRefusal
   ends-unopened {k} {r} p q =
       ends-not k (other _ (ne-eqb (freshRefusal t n) 0 (λ z. omega (arith, number-some k))) ∙ q) p
 
   -- 9
-  pub ends-short : {r : Ended} → freshRefusal t n ≡ 0 → length e < length ks / 2 → r ≡ record { verdict = Refused Short; channel = record { state = noChannel } } → RunsList t n ks d e r d e
+  pub ends-short : {r : Ended} → freshRefusal t n ≡ 0 → length e < length ks / 2 → Unopened Short r → RunsList t n ks d e r d e
   unfolding listRefusal
   ends-short q h p = ends-not Short (chosen _ (eq-eqb _ 0 q) ∙ other _ (lt-leb (length (callsOf (length d) ks)) (length e) (omega (arith, how-many (length d) ks)))) p
 
   -- all calls made: demand 3 holds of the channel
   pub ends :
-      {c x : Channel} {d′ e′ : List ℕ} → freshRefusal t n ≡ 0 → length ks / 2 ≤ length e → c .state ≡ fresh t n → ListRuns (c .state) ks d e (x .state) d′ e′ →
+      {c : State} (x : Channel) {d′ e′ : List ℕ} → freshRefusal t n ≡ 0 → length ks / 2 ≤ length e → c ≡ fresh t n → ListRuns c ks d e (state x) d′ e′ →
       RunsList t n ks d e (record { verdict = Accepted; channel = x }) d′ e′
   unfolding listRefusal
-  ends {c} {x} {d′} {e′} q h same v =
-      let w : ListRuns (fresh t n) ks d e (x .state) d′ e′ = subst (λ (y : State). ListRuns y ks d e (x .state) d′ e′) same v in
+  ends {c} x {d′} {e′} q h same v =
+      let w : ListRuns (fresh t n) ks d e (state x) d′ e′ = subst (λ (y : State). ListRuns y ks d e (state x) d′ e′) same v in
       let none : listRefusal t n ks d e ≡ 0 = chosen _ (eq-eqb _ 0 q) ∙ chosen _ (le-leb (length (callsOf (length d) ks)) (length e) (omega (arith, how-many (length d) ks))) in
       let yes : eqb (listRefusal t n ks d e) 0 ≡ true = eq-eqb _ 0 none in
       record {
@@ -83,8 +84,8 @@ module _ (t : Table) (n : ℕ) (ks d e : List ℕ) where
             settling rs made uncut i l (w .channel) active;
       }
     where
-      settling : (rs : List Rank) → t ≡ tableOf rs → NoLinkCut (fresh t n) (listed t n ks d e) → (i : ℕ) → i < most → x .state ≡ channelAfter (fresh t n) (listed t n ks d e) →
-          InThoseRoles (x .state) i → Settles (settlingTime n) (x .state)
+      settling : (rs : List Rank) → t ≡ tableOf rs → NoLinkCut (fresh t n) (listed t n ks d e) → (i : ℕ) → i < most → state x ≡ channelAfter (fresh t n) (listed t n ks d e) →
+          InThoseRoles (state x) i → Settles (settlingTime n) (state x)
       settling rs made uncut i l is active =
           let here : channelAfter (fresh t n) (listed t n ks d e) ≡ channelAfter (fresh (tableOf rs) n) (listed t n ks d e) = ap (λ (y : Table). channelAfter (fresh y n) (listed t n ks d e)) made in
           subst (Settles (settlingTime n)) (sym (is ∙ here))

@@ -9,6 +9,7 @@ use Rattle.lists.specs.Splice.{splice}
 use Rattle.lists.proofs.Splicing.{splice-none, splice-more, splice-length}
 use Rattle.group.specs.declared.State.{State}
 use Rattle.channel.specs.declared.Answer.{Answer}
+use Rattle.channel.specs.Answers.{state}
 use Rattle.group.specs.Calls.{Call, callNumber, callChannel, callSlice, channelAfter, numbersOf}
 use Rattle.refusal.specs.Answer.{ofVerdict}
 use Rattle.calls.specs.Encoding.{callOf, callsOf, lesser}
@@ -70,7 +71,7 @@ module _ {c₀ : State} {ks d₀ e₀ : List ℕ} where
   pub go-turn :
       {d e : List ℕ} {c : State} {i k n : ℕ} {r : Answer} {d′ : List ℕ} → Going c₀ ks d₀ e₀ d e c i k → k < length ks / 2 → length ks / 2 ≤ length e₀ →
       length d′ ≡ length d → OneCall c (getD ks i 0) (getD ks (i + 1) 0) d r d′ → n ≡ ofVerdict (r .verdict) →
-      Going c₀ ks d₀ e₀ d′ (set e k n) (r .channel .state) (i + 2) (k + 1)
+      Going c₀ ks d₀ e₀ d′ (set e k n) (state (r .channel)) (i + 2) (k + 1)
   unfolding callsOf channelAfter numbersOf bytesAfter
   go-turn {d} {e} {c} {i} {k} {n} {r} {d′} v h fits same p q =
       let a = getD ks i 0 in
@@ -84,7 +85,7 @@ module _ {c₀ : State} {ks d₀ e₀ : List ℕ} where
       let alike : length (take m d) ≡ length blank =
       first-long m d ∙ ap (lesser m) (v .room) ∙ sym (length-replicate (lesser m (length d₀)) 0)
       in
-      let there : r .channel .state ≡ callChannel c call = p .channel ∙ same-channel c a (take m d) (replicate (lesser m (length d₀)) 0) alike in
+      let there : state (r .channel) ≡ callChannel c call = p .channel ∙ same-channel c a (take m d) (replicate (lesser m (length d₀)) 0) alike in
       let gets : n ≡ callNumber c call = q ∙ p .number ∙ same-number c a (take m d) (replicate (lesser m (length d₀)) 0) alike in
       record {
         even = omega arith;

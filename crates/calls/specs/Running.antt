@@ -13,6 +13,7 @@ use Rattle.group.specs.declared.State.{State}
 use Rattle.group.specs.Table.{most, tableOf, freshRefusal, fresh}
 use Rattle.group.specs.Answers.{noChannel}
 use Rattle.group.specs.Calls.{Call, callChannel, callSlice, channelAfter, numbersOf}
+use Rattle.channel.specs.Answers.{state}
 use Rattle.settling.specs.Links.{NoLinkCut}
 use Rattle.settling.specs.Demand.{InThoseRoles, settlingTime, Settles}
 use Rattle.calls.specs.declared.Ended.{Ended}
@@ -38,12 +39,12 @@ module _ (t : Table) (n : ℕ) (ks d e : List ℕ) where
 
   pub record RunsList (r : Ended) (d′ e′ : List ℕ) : Type 0 where
     pub number : ofVerdict (r .verdict) ≡ listRefusal
-    pub channel : r .channel .state ≡ choose (eqb listRefusal 0) (channelAfter (fresh t n) listed) noChannel
+    pub channel : state (r .channel) ≡ choose (eqb listRefusal 0) (channelAfter (fresh t n) listed) noChannel
     pub numbers : e′ ≡ choose (eqb listRefusal 0) (splice e 0 (numbersOf (fresh t n) listed)) e
     pub bytes : d′ ≡ choose (eqb listRefusal 0) (bytesAfter (fresh t n) d ks) d
     -- every list of calls with identities up to 65,535, times up to 4,294,967,295 and slices no longer than the one lent here has such numbers
     pub encodes : EveryListEncodes
     -- demand 3, of the channel that the list ends with
     pub settles :
-        (rs : List Rank) → t ≡ tableOf rs → ofVerdict (r .verdict) ≡ 0 → NoLinkCut (fresh t n) listed → (i : ℕ) → i < most → InThoseRoles (r .channel .state) i →
-        Settles (settlingTime n) (r .channel .state)
+        (rs : List Rank) → t ≡ tableOf rs → ofVerdict (r .verdict) ≡ 0 → NoLinkCut (fresh t n) listed → (i : ℕ) → i < most → InThoseRoles (state (r .channel)) i →
+        Settles (settlingTime n) (state (r .channel))

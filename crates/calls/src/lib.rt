@@ -9,12 +9,11 @@ ghost use mathlib.Core.Path.{_≡_};
 ghost use Prim.Native.Nat.{_<_, _≤_};
 ghost use lib.ListN.{length};
 ghost use Rattle.group.specs.Calls.{outcomeOf};
-ghost use Rattle.group.specs.Answers.{noChannel};
-ghost use Rattle.channel.specs.Answers.{Answers};
+ghost use Rattle.channel.specs.Answers.{state, Answers};
 ghost use Rattle.refusal.specs.Answer.{ofVerdict};
 ghost use Rattle.calls.specs.Encoding.{verbAt, callOf, lesser, callsOf};
 ghost use Rattle.calls.specs.Running.{RunsList};
-ghost use Rattle.calls.specs.Steps.{OneCall, ListRuns};
+ghost use Rattle.calls.specs.Steps.{OneCall, ListRuns, Unopened};
 
 // The channel after the last call; where the list is refused, one with no server.
 pub struct Ended {
@@ -47,7 +46,7 @@ pub fn verb_at(k: u64) -> Verb
 
 // The call of a number, with the slice.
 fn call(channel: Channel, n: u64, out: &mut [u8]) -> Answer
-    ensures { λ r. ⌜ Answers channel (outcomeOf (channel .state) (callOf n (now (out .entry)))) (now (out .entry)) r (now (out .exit)) ⌝ }
+    ensures { λ r. ⌜ Answers channel (outcomeOf (state channel) (callOf n (now (out .entry)))) (now (out .entry)) r (now (out .exit)) ⌝ }
 {
     let kind = n % 10;
     let about = n / 10;
@@ -70,7 +69,7 @@ fn lesser(m: u64, n: usize) -> usize
 
 // The call of a number, lent the first m bytes.
 fn lend(channel: Channel, n: u64, m: u64, out: &mut [u8]) -> Answer
-    ensures { λ r. ⌜ OneCall (channel .state) n m (now (out .entry)) r (now (out .exit)) ⌝ }
+    ensures { λ r. ⌜ OneCall (state channel) n m (now (out .entry)) r (now (out .exit)) ⌝ }
 {
     let end = lesser(m, out.len());
     call(channel, n, &mut out[..end])
@@ -88,7 +87,7 @@ fn number(verdict: Verdict) -> u8
 // All the calls, where there is room for their numbers.
 fn run(channel: Channel, calls: &[u64], out: &mut [u8], numbers: &mut [u8]) -> Channel
     requires { ⌜ length (callsOf (length (now out)) (now calls)) ≤ length (now numbers) ⌝ }
-    ensures { λ r. ⌜ ListRuns (channel .state) (now (calls .entry)) (now (out .entry)) (now (numbers .entry)) (r .state) (now (out .exit)) (now (numbers .exit)) ⌝ }
+    ensures { λ r. ⌜ ListRuns (state channel) (now (calls .entry)) (now (out .entry)) (now (numbers .entry)) (state r) (now (out .exit)) (now (numbers .exit)) ⌝ }
 {
     let mut now = channel;
     let mut i: usize = 0;
@@ -106,7 +105,7 @@ fn run(channel: Channel, calls: &[u64], out: &mut [u8], numbers: &mut [u8]) -> C
 }
 
 fn refused(k: Refusal) -> Ended
-    ensures { λ r. ⌜ r ≡ record { verdict = Verdict.Refused k; channel = record { state = noChannel } } ⌝ }
+    ensures { λ r. ⌜ Unopened k r ⌝ }
 {
     let opened = Channel::fresh(Table::empty(), 2);
     let channel = opened.channel;

@@ -283,7 +283,7 @@ fn say_table(verdict: Verdict, servers: [Server; 16]) {
 
 fn say_call(verdict: Verdict, written: usize, channel: Channel, lent: &[u8]) {
     if written <= lent.len() {
-        let state = channel.state;
+        let state = channel.state();
         let servers = state.servers;
         let n = fillers(&lent[written..]);
         let mut out = [0u8; 64];

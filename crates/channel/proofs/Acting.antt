@@ -11,7 +11,7 @@ use denote.Enum.Declared.{tagOf}
 use types.Run.{OneOf, miss}
 use lib.Dec.{eqb, ltb}
 use lib.ListN.{length, set}
-use lib.Seq.{set-getD, set-set}
+use lib.Seq.{set-getD}
 use Rattle.lists.specs.Choice.{choose}
 use Rattle.lists.proofs.Cases.{tested, on, chosen, other, not-first, fst-true, snd-true}
 use Rattle.refusal.specs.declared.Refusal.{Refusal}
@@ -42,7 +42,7 @@ use Rattle.group.specs.Verbs.{placeOf, namesNobody, known, stateRefusal, verbRe
 use Rattle.group.proofs.Answering.{is-short, is-long, gives-not, gives-so}
 use Rattle.channel.specs.declared.Deed.{Deed}
 use Rattle.channel.specs.declared.Told.{Told}
-use Rattle.channel.specs.Steps.{knownAt, stateNumber, linkAfter, Does, Tells}
+use Rattle.channel.specs.Steps.{knownAt, stateNumber, linkAfter, Does, Tells, put}
 
 -- a test joined with one that holds
 pub and-rest : (t : Bool) → (t && true) ≡ t
@@ -147,18 +147,9 @@ links-same c Restart a b p q = set-getD (c .whole) _ false
 links-same c Cut a b p q = ap₂ (λ (x y : ℕ). set (c .whole) (linkOf x y) false) p (q refl)
 links-same c Mend a b p q = ap₂ (λ (x y : ℕ). set (c .whole) (linkOf x y) true) p (q refl)
 
--- the state with another server at place i and another link from there to place j, and with both taken back
-abbrev pub put : State → ℕ → ℕ → Server → Bool → State
-put c i j s w = record { frame = c .frame; period = c .period; servers = set (c .servers) i s; whole = set (c .whole) (linkOf i j) w }
-
-put-back : (c : State) (i j : ℕ) (s : Server) (w : Bool) → put (put c i j s w) i j (place c i) (whole c i j) ≡ c
-put-back c i j s w =
-    ap₂ (λ (l : List Server) (m : List Bool). record { frame = c .frame; period = c .period; servers = l; whole = m })
-    (set-set (c .servers) i s _ ∙ set-getD (c .servers) i absent) (set-set (c .whole) (linkOf i j) w _ ∙ set-getD (c .whole) (linkOf i j) false)
-
 -- x and y are the places of the identities, the second where the verb has one
 module _ (c : State) (v : Verb) (a b : ℕ) {x y : ℕ} (p : x ≡ placeOf c a) (q : y ≡ choose (paired v) (placeOf c b) 0) where
-  known-by : knownAt v a b x y ≡ known c v a b
+  pub known-by : knownAt v a b x y ≡ known c v a b
   unfolding known choose
   known-by = ap₂ (λ (x y : ℕ). knownAt v a b x y) p q ∙ ap (λ (t : Bool). ltb (placeOf c a) most && t) (by (paired v))
     where
@@ -216,7 +207,5 @@ module _ (c : State) (v : Verb) (a b : ℕ) {x y : ℕ} (p : x ≡ placeOf c a) 
         (ap (set (c .servers) (x % most)) (w .server) ∙ ap (λ (i : ℕ). set (c .servers) i (after (c .frame) (place c i) (verbHappens v b (verbAnswer v b (place c i))))) l)
         (ap (set (c .whole) (linkOf (x % most) (y % most))) (w .link) ∙ links-same c v a b l (second-at k))))
 
-    pub verb-refused :
-        {k : Refusal} → r .verdict ≡ Refused k →
-        Gives c (verbOutcome c v a b) d (r .verdict) (r .written) (put (put c (x % most) (y % most) (e .server) (e .link)) (x % most) (y % most) (place c (x % most)) (whole c (x % most) (y % most))) d′
-    verb-refused h = as-refused c (verbOutcome c v a b) gives h (put-back c (x % most) (y % most) (e .server) (e .link))
+    pub verb-refused : {k : Refusal} → r .verdict ≡ Refused k → Gives c (verbOutcome c v a b) d (r .verdict) (r .written) c d′
+    verb-refused h = as-refused c (verbOutcome c v a b) gives h refl

@@ -22,12 +22,12 @@ use Rattle.group.proofs.Answering.{gives-refused, gives-as}
 use Rattle.channel.specs.declared.Channel.{Channel}
 use Rattle.channel.specs.declared.Answer.{Answer}
 use Rattle.channel.specs.declared.Within.{Within}
-use Rattle.channel.specs.Answers.{Answers, AnswersWithin}
+use Rattle.channel.specs.Answers.{state, Answers, AnswersWithin}
 
 -- a call that gets a number by itself
 pub answers-refused :
     (c : Channel) (o : Outcome) (d : List ℕ) {k : Refusal} {r : Answer} → r ≡ record { verdict = Refused k; written = 0; channel = c } → o .number ≡ numberOf k → Answers c o d r d
-answers-refused c o d {k} {r} q e = rw q (gives-refused (c .state) o d k e)
+answers-refused c o d {k} {r} q e = rw q (gives-refused (state c) o d k e)
 
 -- ---- the advance within a slice
 
@@ -42,17 +42,17 @@ module _ (c : State) (t : ℕ) {d : List ℕ} {v : Verdict} {n : ℕ} {x : State
       (λ e. omega (arith, ap (λ (y : State). y .frame) (g .channel ∙ other _ e)))
 
 pub stays-refused :
-    (c : Channel) (t : ℕ) (d : List ℕ) {k : Refusal} {r : Within} → r ≡ record { verdict = Refused k; written = 0; frames = 0; channel = c } → timeRefusal (c .state) t ≡ numberOf k →
-    AnswersWithin c (withinOutcome (c .state) t (length d)) d r d
+    (c : Channel) (t : ℕ) (d : List ℕ) {k : Refusal} {r : Within} → r ≡ record { verdict = Refused k; written = 0; frames = 0; channel = c } → timeRefusal (state c) t ≡ numberOf k →
+    AnswersWithin c (withinOutcome (state c) t (length d)) d r d
 stays-refused c t d {k} {r} q e =
-    let some : eqb (timeRefusal (c .state) t) 0 ≡ false = ne-eqb (timeRefusal (c .state) t) 0 (λ z. omega (arith, e, number-some k)) in
+    let some : eqb (timeRefusal (state c) t) 0 ≡ false = ne-eqb (timeRefusal (state c) t) 0 (λ z. omega (arith, e, number-some k)) in
     rw q
     (record {
-      answer = gives-refused (c .state) (withinOutcome (c .state) t (length d)) d k (other _ some ∙ e);
-      frames = let z : 0 ≡ c .state .frame - c .state .frame = omega arith in z;
+      answer = gives-refused (state c) (withinOutcome (state c) t (length d)) d k (other _ some ∙ e);
+      frames = let z : 0 ≡ c .frame - c .frame = omega arith in z;
     })
 
 pub within-goes :
-    (c : Channel) (t : ℕ) {d : List ℕ} {r : Within} {d′ : List ℕ} → timeRefusal (c .state) t ≡ 0 → AnswersWithin c (withinGoes (c .state) t (length d)) d r d′ →
-    AnswersWithin c (withinOutcome (c .state) t (length d)) d r d′
+    (c : Channel) (t : ℕ) {d : List ℕ} {r : Within} {d′ : List ℕ} → timeRefusal (state c) t ≡ 0 → AnswersWithin c (withinGoes (state c) t (length d)) d r d′ →
+    AnswersWithin c (withinOutcome (state c) t (length d)) d r d′
 within-goes c t e v = record { answer = gives-as (sym (chosen _ (eq-eqb _ 0 e))) refl refl (v .answer); frames = v .frames }

@@ -4,7 +4,7 @@ use mathlib.Core.Path.{_≡_}
 use mathlib.Core.List.{List}
 use Prim.Native.Nat.{ℕ}
 use lib.Dec.{ltb, eqb}
-use lib.ListN.{length}
+use lib.ListN.{length, set}
 use Rattle.lists.specs.Choice.{choose}
 use Rattle.refusal.specs.Answer.{ofVerdict}
 use Rattle.server.specs.declared.Server.{Server}
@@ -16,6 +16,7 @@ use Rattle.group.specs.declared.State.{State}
 use Rattle.group.specs.Outcome.{Outcome, channelIn}
 use Rattle.group.specs.Answers.{Gives}
 use Rattle.group.specs.Table.{most}
+use Rattle.group.specs.Hearing.{linkOf}
 use Rattle.group.specs.Verbs.{verbSaid}
 use Rattle.channel.specs.declared.Deed.{Deed}
 use Rattle.channel.specs.declared.Told.{Told}
@@ -56,3 +57,7 @@ pub record Does (t : ℕ) (v : Verb) (b : ℕ) (s : Server) (w : Bool) (r : Deed
 abbrev pub Tells : ℕ → List ℕ → List ℕ → Told → List ℕ → Type 0
 Tells n w d r d′ =
     (c : State) (o : Outcome) → o .number ≡ n → (n ≡ 0 → o .lines ≡ w) → Gives c o d (r .verdict) (r .written) (channelIn c o (length d)) d′
+
+-- the state with another server at place i and another link from there to place j
+abbrev pub put : State → ℕ → ℕ → Server → Bool → State
+put c i j s w = record { frame = c .frame; period = c .period; servers = set (c .servers) i s; whole = set (c .whole) (linkOf i j) w }

@@ -3,6 +3,7 @@ use group::State;
 use group::Table;
 use refusal::Refusal;
 use refusal::Verdict;
+use server::Period;
 use server::Said;
 use server::Server;
 use server::Verb;
@@ -10,6 +11,7 @@ use server::Word;
 use text::Written;
 use timecode::Timecode;
 ghost use mathlib.Core.Path.{_≡_};
+ghost use Prim.Native.Nat.{_<_};
 ghost use lib.ListN.{length};
 ghost use Rattle.lists.specs.Choice.{choose};
 ghost use Rattle.refusal.specs.Answer.{ofVerdict};
@@ -18,13 +20,17 @@ ghost use Rattle.server.specs.Verbs.{paired};
 ghost use Rattle.lines.specs.Lines.{linesOf, refusedLine};
 ghost use Rattle.group.specs.Table.{placeIn};
 ghost use Rattle.group.specs.Advance.{stepOutcome, timeGoes, timeOutcome, withinGoes, withinOutcome};
-ghost use Rattle.group.specs.Verbs.{namesNobody, verbOutcome};
-ghost use Rattle.channel.specs.Answers.{Opens, Answers, AnswersWithin};
-ghost use Rattle.channel.specs.Steps.{knownAt, Does, Tells};
+ghost use Rattle.group.specs.Verbs.{namesNobody, known, verbOutcome};
+ghost use Rattle.frames.specs.Words.{serversOf};
+ghost use Rattle.channel.specs.Answers.{state, Opens, Answers, AnswersWithin};
+ghost use Rattle.channel.specs.Steps.{knownAt, Does, Tells, put};
 
-// A channel in a frame: its state, with the calls on it.
+// A channel in a frame, with the calls on it: its frame, its period, its servers as numbers, and which links are whole.
 pub struct Channel {
-    pub state: State,
+    frame: u32,
+    period: Period,
+    words: [u32; 80],
+    whole: [bool; 256],
 }
 
 // A fresh channel; where it is refused, one with no server.
@@ -58,10 +64,52 @@ impl Channel {
         let opened = State::fresh(table, period);
         let verdict = opened.verdict;
         let state = opened.state;
+        let servers = state.servers;
+        let words = frames::words_of(servers);
+        let period = state.period;
+        let whole = state.whole;
         Opened {
             verdict,
-            channel: Channel { state },
+            channel: Channel {
+                frame: state.frame,
+                period,
+                words,
+                whole,
+            },
         }
+    }
+
+    // What it stands for, servers and links by value.
+    pub fn state(self) -> State
+        ensures { λ r. ⌜ r ≡ state self ⌝ }
+    {
+        let words = self.words;
+        let servers = frames::servers_of(&words);
+        let period = self.period;
+        let whole = self.whole;
+        State {
+            frame: self.frame,
+            period,
+            servers,
+            whole,
+        }
+    }
+
+    // The present frame.
+    pub fn frame(self) -> u32
+        ensures { λ r. ⌜ r ≡ state self .frame ⌝ }
+    {
+        self.frame
+    }
+
+    // The same links and period, in another frame with other servers.
+    fn moved(self, frame: u32, words: [u32; 80]) -> Channel
+        ensures { λ r. ⌜ r ≡ record { frame = frame; period = self .period; words = words; whole = self .whole } ⌝ }
+    {
+        let mut next = self;
+        next.frame = frame;
+        next.words = words;
+        next
     }
 
     fn refused(self, k: Refusal) -> Answer
@@ -76,37 +124,40 @@ impl Channel {
 
     // To the target, or 9.
     fn run(self, target: u32, out: &mut [u8]) -> Answer
-        ensures { λ r. ⌜ Answers self (timeGoes (self .state) target) (now (out .entry)) r (now (out .exit)) ⌝ }
+        ensures { λ r. ⌜ Answers self (timeGoes (state self) target) (now (out .entry)) r (now (out .exit)) ⌝ }
     {
-        let state = self.state;
-        let ran = frames::run(state, target, out);
+        let words = self.words;
+        let whole = self.whole;
+        let period = self.period;
+        let ran = frames::run(words, &whole, period, self.frame, target, out);
         let verdict = ran.verdict;
-        let next = ran.state;
+        let next = ran.words;
+        let channel = self.moved(ran.frame, next);
         Answer {
             verdict,
             written: ran.written,
-            channel: Channel { state: next },
+            channel,
         }
     }
 
     // One frame: 16, 9.
     pub fn advance(self, out: &mut [u8]) -> Answer
-        ensures { λ r. ⌜ Answers self (stepOutcome (self .state)) (now (out .entry)) r (now (out .exit)) ⌝ }
+        ensures { λ r. ⌜ Answers self (stepOutcome (state self)) (now (out .entry)) r (now (out .exit)) ⌝ }
     {
-        if self.state.frame >= Timecode::DAY - 1 {
+        if self.frame >= Timecode::DAY - 1 {
             return self.refused(Refusal::DayOver);
         }
-        self.run(self.state.frame + 1, out)
+        self.run(self.frame + 1, out)
     }
 
     // To a time, as so many single advances: 3, 11, 9.
     pub fn advance_to(self, time: u32, out: &mut [u8]) -> Answer
-        ensures { λ r. ⌜ Answers self (timeOutcome (self .state) time) (now (out .entry)) r (now (out .exit)) ⌝ }
+        ensures { λ r. ⌜ Answers self (timeOutcome (state self) time) (now (out .entry)) r (now (out .exit)) ⌝ }
     {
         if time >= Timecode::DAY {
             return self.refused(Refusal::Timecode);
         }
-        if time < self.state.frame {
+        if time < self.frame {
             return self.refused(Refusal::Past);
         }
         self.run(time, out)
@@ -125,29 +176,31 @@ impl Channel {
 
     // As many frames towards the target as fit, or 9.
     fn run_within(self, target: u32, out: &mut [u8]) -> Within
-        ensures { λ r. ⌜ AnswersWithin self (withinGoes (self .state) target (length (now (out .entry)))) (now (out .entry)) r (now (out .exit)) ⌝ }
+        ensures { λ r. ⌜ AnswersWithin self (withinGoes (state self) target (length (now (out .entry)))) (now (out .entry)) r (now (out .exit)) ⌝ }
     {
-        let state = self.state;
-        let ran = frames::run_within(state, target, out);
+        let words = self.words;
+        let whole = self.whole;
+        let period = self.period;
+        let ran = frames::run_within(words, &whole, period, self.frame, target, out);
         let verdict = ran.verdict;
-        let next = ran.state;
-        let frames = next.frame - state.frame;
+        let next = ran.words;
+        let channel = self.moved(ran.frame, next);
         Within {
             verdict,
             written: ran.written,
-            frames,
-            channel: Channel { state: next },
+            frames: ran.frame - self.frame,
+            channel,
         }
     }
 
     // As many single advances towards a time as fit, and how many they are: none of the listed calls. 3, 11; 9 where not even one fits.
     pub fn advance_within(self, time: u32, out: &mut [u8]) -> Within
-        ensures { λ r. ⌜ AnswersWithin self (withinOutcome (self .state) time (length (now (out .entry)))) (now (out .entry)) r (now (out .exit)) ⌝ }
+        ensures { λ r. ⌜ AnswersWithin self (withinOutcome (state self) time (length (now (out .entry)))) (now (out .entry)) r (now (out .exit)) ⌝ }
     {
         if time >= Timecode::DAY {
             return self.stays(Refusal::Timecode);
         }
-        if self.state.frame > time {
+        if self.frame > time {
             return self.stays(Refusal::Past);
         }
         self.run_within(time, out)
@@ -202,11 +255,11 @@ fn judge(verb: Verb, a: u16, b: u16, i: usize, j: usize, allowed: Verdict) -> Ve
 }
 
 // The place of the second identity, where the verb has one.
-fn second_place(servers: [Server; 16], verb: Verb, b: u16) -> usize
-    ensures { λ r. ⌜ r ≡ choose (paired verb) (placeIn servers b) 0 ⌝ }
+fn second_place(words: &[u32; 80], verb: Verb, b: u16) -> usize
+    ensures { λ r. ⌜ r ≡ choose (paired verb) (placeIn (serversOf (now (words .entry))) b) 0 ⌝ }
 {
     if server::paired(verb) {
-        group::place_in(servers, b)
+        frames::place_in(words, b)
     } else {
         0
     }
@@ -289,98 +342,109 @@ fn tell(verdict: Verdict, said: Said, frame: u32, identity: u16, out: &mut [u8])
 }
 
 impl Channel {
-    // Any verb; the second identity is not looked at where the verb has one only. An identity that is not in the table stands for place 0, and gets 8.
-    // The state is slow to pass on, so only its server and its link are. They are put into it before the lines are said, and taken back where the
-    // verb is refused: right before the state is handed back, they would hold it up.
-    pub fn verb(self, verb: Verb, a: u16, b: u16, out: &mut [u8]) -> Answer
-        ensures { λ r. ⌜ Answers self (verbOutcome (self .state) verb a b) (now (out .entry)) r (now (out .exit)) ⌝ }
+    // With another server at place i, and another link from there to place j.
+    fn put(self, i: usize, j: usize, server: Server, link: bool) -> Channel
+        requires { ⌜ (i < 16) × (j < 16) ⌝ }
+        ensures { λ r. ⌜ state r ≡ put (state self) i j server link ⌝ }
     {
-        let mut state = self.state;
-        let frame = state.frame;
-        let servers = state.servers;
-        let first = group::place_in(servers, a);
-        let second = second_place(servers, verb, b);
+        let words = self.words;
+        let mut next = self;
+        next.words = frames::stored(words, i, server);
+        next.whole[16 * i + j] = link;
+        next
+    }
+
+    // Whether the table has a verb's identities, which differ; the second counts only where the verb has one.
+    pub fn knows(self, verb: Verb, a: u16, b: u16) -> bool
+        ensures { λ r. ⌜ r ≡ known (state self) verb a b ⌝ }
+    {
+        let words = self.words;
+        let first = frames::place_in(&words, a);
+        let second = second_place(&words, verb, b);
+        known(verb, a, b, first, second)
+    }
+
+    // Any verb; the second identity is not looked at where the verb has one only. An identity that is not in the table stands for place 0, and gets 8.
+    pub fn verb(self, verb: Verb, a: u16, b: u16, out: &mut [u8]) -> Answer
+        ensures { λ r. ⌜ Answers self (verbOutcome (state self) verb a b) (now (out .entry)) r (now (out .exit)) ⌝ }
+    {
+        let words = self.words;
+        let first = frames::place_in(&words, a);
+        let second = second_place(&words, verb, b);
         let i = first % 16;
         let j = second % 16;
-        let k = 16 * i + j;
-        let s = state.servers[i];
-        let link = state.whole[k];
-        let deed = attempt(verb, frame, b, s, link);
+        let s = frames::server(&words, i);
+        let deed = attempt(verb, self.frame, b, s, self.whole[16 * i + j]);
         let allowed = deed.verdict;
         let said = deed.said;
         let server = deed.server;
-        state.servers[i] = server;
-        state.whole[k] = deed.link;
         let verdict = judge(verb, a, b, first, second, allowed);
-        let told = tell(verdict, said, frame, a, out);
+        let told = tell(verdict, said, self.frame, a, out);
         let last = told.verdict;
-        match last {
-            Verdict::Accepted => {}
-            Verdict::Refused(_) => {
-                state.servers[i] = s;
-                state.whole[k] = link;
-            }
-        }
+        let channel = match last {
+            Verdict::Accepted => self.put(i, j, server, deed.link),
+            Verdict::Refused(_) => self,
+        };
         Answer {
             verdict: last,
             written: told.written,
-            channel: Channel { state },
+            channel,
         }
     }
 
     pub fn start(self, identity: u16, out: &mut [u8]) -> Answer
-        ensures { λ r. ⌜ Answers self (verbOutcome (self .state) Verb.Start identity 0) (now (out .entry)) r (now (out .exit)) ⌝ }
+        ensures { λ r. ⌜ Answers self (verbOutcome (state self) Verb.Start identity 0) (now (out .entry)) r (now (out .exit)) ⌝ }
     {
         self.verb(Verb::Start, identity, 0, out)
     }
 
     pub fn ready(self, identity: u16, out: &mut [u8]) -> Answer
-        ensures { λ r. ⌜ Answers self (verbOutcome (self .state) Verb.Ready identity 0) (now (out .entry)) r (now (out .exit)) ⌝ }
+        ensures { λ r. ⌜ Answers self (verbOutcome (state self) Verb.Ready identity 0) (now (out .entry)) r (now (out .exit)) ⌝ }
     {
         self.verb(Verb::Ready, identity, 0, out)
     }
 
     pub fn unready(self, identity: u16, out: &mut [u8]) -> Answer
-        ensures { λ r. ⌜ Answers self (verbOutcome (self .state) Verb.Unready identity 0) (now (out .entry)) r (now (out .exit)) ⌝ }
+        ensures { λ r. ⌜ Answers self (verbOutcome (state self) Verb.Unready identity 0) (now (out .entry)) r (now (out .exit)) ⌝ }
     {
         self.verb(Verb::Unready, identity, 0, out)
     }
 
     pub fn pass(self, from: u16, to: u16, out: &mut [u8]) -> Answer
-        ensures { λ r. ⌜ Answers self (verbOutcome (self .state) Verb.Pass from to) (now (out .entry)) r (now (out .exit)) ⌝ }
+        ensures { λ r. ⌜ Answers self (verbOutcome (state self) Verb.Pass from to) (now (out .entry)) r (now (out .exit)) ⌝ }
     {
         self.verb(Verb::Pass, from, to, out)
     }
 
     pub fn crash(self, identity: u16, out: &mut [u8]) -> Answer
-        ensures { λ r. ⌜ Answers self (verbOutcome (self .state) Verb.Crash identity 0) (now (out .entry)) r (now (out .exit)) ⌝ }
+        ensures { λ r. ⌜ Answers self (verbOutcome (state self) Verb.Crash identity 0) (now (out .entry)) r (now (out .exit)) ⌝ }
     {
         self.verb(Verb::Crash, identity, 0, out)
     }
 
     pub fn restart(self, identity: u16, out: &mut [u8]) -> Answer
-        ensures { λ r. ⌜ Answers self (verbOutcome (self .state) Verb.Restart identity 0) (now (out .entry)) r (now (out .exit)) ⌝ }
+        ensures { λ r. ⌜ Answers self (verbOutcome (state self) Verb.Restart identity 0) (now (out .entry)) r (now (out .exit)) ⌝ }
     {
         self.verb(Verb::Restart, identity, 0, out)
     }
 
     // The link from one server to the other, and not that back.
     pub fn cut(self, from: u16, to: u16, out: &mut [u8]) -> Answer
-        ensures { λ r. ⌜ Answers self (verbOutcome (self .state) Verb.Cut from to) (now (out .entry)) r (now (out .exit)) ⌝ }
+        ensures { λ r. ⌜ Answers self (verbOutcome (state self) Verb.Cut from to) (now (out .entry)) r (now (out .exit)) ⌝ }
     {
         self.verb(Verb::Cut, from, to, out)
     }
 
     pub fn mend(self, from: u16, to: u16, out: &mut [u8]) -> Answer
-        ensures { λ r. ⌜ Answers self (verbOutcome (self .state) Verb.Mend from to) (now (out .entry)) r (now (out .exit)) ⌝ }
+        ensures { λ r. ⌜ Answers self (verbOutcome (state self) Verb.Mend from to) (now (out .entry)) r (now (out .exit)) ⌝ }
     {
         self.verb(Verb::Mend, from, to, out)
     }
 
     // The sheet's line of a call that was refused, at the present time; 9.
     pub fn write_refused(self, identity: u16, refusal: Refusal, out: &mut [u8]) -> Written
-        ensures { λ r. ⌜ Writes (now (out .entry)) 0 (refusedLine (self .state .frame) identity refusal) r (now (out .exit)) ⌝ }
+        ensures { λ r. ⌜ Writes (now (out .entry)) 0 (refusedLine (self .frame) identity refusal) r (now (out .exit)) ⌝ }
     {
-        lines::write_refused(out, self.state.frame, identity, refusal)
+        lines::write_refused(out, self.frame, identity, refusal)
     }
 }

@@ -1,3 +1,4 @@
+use Rattle.lists.proofs.Cases.{bit-small}
 -- The most bytes that a frame can write. Assumes nothing.
 use mathlib.Core.Bool.{Bool, true, false}
 use mathlib.Core.Path.{_≡_, refl, sym, ap, _∙_}
@@ -30,16 +31,15 @@ use Rattle.group.specs.Hearing.{place, isPlace, nextSender, sendersAfter, sende
 use Rattle.group.specs.Frame.{heardAll, heardLines, timedLines, hearing, turnLines, turnsLines, frameLines}
 use Rattle.frames.specs.Words.{sendingNumber}
 use Rattle.frames.specs.Steps.{Loud, mostBytes}
-use Rattle.frames.proofs.Words.{choice-bit}
 use Rattle.frames.proofs.Lookup.{some-after, none-after}
 use Rattle.frames.proofs.Hearings.{heard-identity, one-identity}
 
 -- ---- lines
 
-line-most : (t i : ℕ) (w : Word) → i < 65536 → length (line t i (wordBytes w)) ≤ 27
+pub line-most : (t i : ℕ) (w : Word) → i < 65536 → length (line t i (wordBytes w)) ≤ 27
 line-most t i w h = omega (arith, line-long t i (wordBytes w), digits-few 4 i (omega arith), word-short w)
 
-said-most : (t i : ℕ) (s : Said) → i < 65536 → length (linesOf t i s) ≤ 54
+pub said-most : (t i : ℕ) (s : Said) → i < 65536 → length (linesOf t i s) ≤ 54
 unfolding linesOf
 said-most t i says.Nothing h = omega arith
 said-most t i (says.One w) h = omega (arith, line-most t i w h)
@@ -80,7 +80,7 @@ module _ (c : State) (r : ℕ) (v : Loud (c .servers) r) where
   -- each of the places sent no more than so many heartbeats
   one-most : (i : ℕ) → i < 16 → length (sentBy (place c i)) ≤ r / 131072 + 2
   one-most i h =
-      let bit = choice-bit (place c i .reveal) in
+      let bit = bit-small (place c i .reveal) in
       let beats : place c i .beats ≤ r / 131072 = omega (arith, v .bound i h) in
       omega (arith, sent-most (place c i))
 

@@ -18,14 +18,15 @@ use Rattle.refusal.specs.declared.Verdict.the-variants.{Accepted, Refused}
 use Rattle.server.specs.declared.Server.{Server}
 use Rattle.group.specs.declared.State.{State}
 use Rattle.group.specs.Frame.{advanced, frameLines, movedTo}
-use Rattle.group.specs.Advance.{advancedBy, linesBy, timeGoes, fitting, framesWithin, withinGoes}
+use Rattle.group.specs.Advance.{advancedBy, linesBy, fitting, framesWithin, withinGoes}
 use Rattle.group.specs.Answers.{Gives}
 use Rattle.group.proofs.Places.{frame-after}
 use Rattle.group.proofs.Answering.{is-long, gives-refused, gives-so}
-use Rattle.frames.specs.declared.Advance.{Advance}
-use Rattle.frames.specs.declared.Moved.{Moved}
+use Rattle.frames.specs.Words.{serversOf}
+use Rattle.frames.specs.declared.Played.{Played}
 use Rattle.frames.specs.declared.Stretched.{Stretched}
-use Rattle.frames.specs.Steps.{Out, QuietTo, Jumps, Fares, Stretches, MovesWithin}
+use Rattle.frames.specs.Steps.{Out, Jumps, Fares, Stretches, MovesWithin}
+use Rattle.frames.proofs.Words.{not-so, not-some}
 use Rattle.frames.proofs.Writing.{after-fits, start, chain, out-as}
 use Rattle.frames.proofs.Playing.{advanced-add, lines-add, one-step, no-step, jumped}
 
@@ -67,10 +68,6 @@ module _ (c : State) {d : List ℕ} {at : ℕ} where
 
   pub fares-not : leb (at + length (frameLines c)) (length d) ≡ false → Fares c d at (c .servers) (record { frame = c .frame; at = at; full = true }) d
   fares-not h = record { full = sym (ap not h); steps = let none : _≡_ {A = ℕ} (choose true 0 1) 0 = chosen 1 refl in rw none (no-step c) }
-
-not-so : (x : Bool) → not x ≡ true → x ≡ false
-not-so true z = sym z
-not-so false z = refl
 
 -- ---- a jump, then one frame if it fits
 
@@ -119,7 +116,7 @@ module _ (c : State) {target loud s : ℕ} (j : Jumps (c .period) (c .servers) (
       })
       (λ f.
       let one : _≡_ {A = ℕ} (choose (r .full) 0 1) 1 = other 0 f in
-      let enough = leb-true (at + length (frameLines later)) (length d) (not-false _ (sym (v .full) ∙ f)) in
+      let enough = leb-true (at + length (frameLines later)) (length d) (not-some _ (sym (v .full) ∙ f)) in
       let from = j .from in
       record {
         count = skipped + 1;
@@ -129,10 +126,6 @@ module _ (c : State) {target loud s : ℕ} (j : Jumps (c .period) (c .servers) (
         some = λ g. omega arith;
         stop = λ g. absurd (clash g f);
       })
-    where
-      not-false : (x : Bool) → not x ≡ false → x ≡ true
-      not-false true z = refl
-      not-false false z = sym z
 
   -- the jump has reached the target
   pub stretch-jump : {d : List ℕ} {at : ℕ} → at ≤ length d → c .frame < target → target ≤ s → Stretches c target d at (c .servers) (record { frame = s; at = at; full = false }) d
@@ -226,10 +219,10 @@ module _ {c : State} {target : ℕ} {d₀ : List ℕ} where
         (λ e. let is : _≡_ {A = ℕ} (choose (r .full) 0 1) 1 = other 0 e in let some = g .some e in let within = g .within in omega (arith, frame-then))
 
   pub within-end :
-      {d : List ℕ} {l : List Server} {t at : ℕ} {full : Bool} {x : State} → Within c target d₀ d l t at full → (ltb t target && not full) ≡ false → x ≡ movedTo c t l →
-      MovesWithin c target d₀ (record { state = x; at = at }) d
+      {d : List ℕ} {w : List ℕ} {t at : ℕ} {full : Bool} → Within c target d₀ d (serversOf w) t at full → (ltb t target && not full) ≡ false →
+      MovesWithin c target d₀ (record { words = w; frame = t; at = at }) d
   unfolding fitting
-  within-end {d} {l} {t} {at} {full} {x} v h q =
+  within-end {d} {w} {t} {at} {full} v h =
       let n = v .count in
       let m = target - c .frame - n in
       let enough = v .enough in
@@ -237,7 +230,7 @@ module _ {c : State} {target : ℕ} {d₀ : List ℕ} where
       let rest : fitting m (advancedBy n c) (length d₀ - length (linesBy n c)) ≡ 0 = over (tested full) in
       let is : framesWithin c target (length d₀) ≡ n = ap (λ (k : ℕ). fitting k c (length d₀)) sum ∙ fit-add n m c (length d₀) (v .fits) ∙ ap (λ (k : ℕ). n + k) rest ∙ (let e : n + 0 ≡ n = omega arith in e) in
       record {
-        channel = q ∙ v .there ∙ ap (λ (k : ℕ). advancedBy k c) (sym is);
+        channel = v .there ∙ ap (λ (k : ℕ). advancedBy k c) (sym is);
         fits = subst (λ (k : ℕ). length (linesBy k c) ≤ length d₀) (sym is) (v .fits);
         out = out-as (ap (λ (k : ℕ). linesBy k c) (sym is)) (v .out);
       }
@@ -251,60 +244,31 @@ module _ {c : State} {target : ℕ} {d₀ : List ℕ} where
 
 -- ---- the answer
 
-module _ (c : State) (target : ℕ) {d : List ℕ} {r : Moved} {d′ : List ℕ} (v : MovesWithin c target d r d′) where
+module _ (c : State) (target : ℕ) {d : List ℕ} {r : Played} {d′ : List ℕ} (v : MovesWithin c target d r d′) where
   abbrev frames : ℕ
   frames = framesWithin c target (length d)
 
-  frame-within : r .state .frame ≡ c .frame + frames
+  frame-within : r .frame ≡ c .frame + frames
   frame-within = ap (λ (x : State). x .frame) (v .channel) ∙ frame-after frames c
 
   -- there are frames to go and none fits
-  pub within-short : (ltb (c .frame) target && eqb (r .state .frame) (c .frame)) ≡ true → Gives c (withinGoes c target (length d)) d (Refused Short) 0 c d′
+  pub within-short : (ltb (c .frame) target && eqb (r .frame) (c .frame)) ≡ true → Gives c (withinGoes c target (length d)) d (Refused Short) 0 c d′
   unfolding linesBy
   within-short e =
-      let same = eqb-true (r .state .frame) (c .frame) (snd-true (ltb (c .frame) target) _ e) in
+      let same = eqb-true (r .frame) (c .frame) (snd-true (ltb (c .frame) target) _ e) in
       let none : frames ≡ 0 = omega (arith, frame-within, same) in
       let kept : d′ ≡ d = v .out .is refl (omega (arith, v .fits)) ∙ ap (λ (k : ℕ). splice d 0 (linesBy k c)) none ∙ splice-none d 0 in
       rw kept (gives-refused c (withinGoes c target (length d)) d Short (chosen 0 (and-true (fst-true (ltb (c .frame) target) _ e) (eq-eqb frames 0 none))))
 
-  pub within-fits : (ltb (c .frame) target && eqb (r .state .frame) (c .frame)) ≡ false → Gives c (withinGoes c target (length d)) d Accepted (r .at) (r .state) d′
+  pub within-fits : (ltb (c .frame) target && eqb (r .frame) (c .frame)) ≡ false → Gives c (withinGoes c target (length d)) d Accepted (r .at) (movedTo c (r .frame) (serversOf (r .words))) d′
   within-fits e =
       let free : (ltb (c .frame) target && eqb frames 0) ≡ false = ap (λ (b : Bool). ltb (c .frame) target && b) same ∙ e in
       gives-so c (withinGoes c target (length d)) d (is-long (withinGoes c target (length d)) (length d) (other 9 free) (v .fits))
       (v .out .end (omega arith) ∙ after-fits d 0 (linesBy frames c) (omega (arith, v .fits)) ∙ zero-add (length (linesBy frames c))) (v .channel) (v .out .is refl (omega (arith, v .fits)))
     where
-      same : eqb frames 0 ≡ eqb (r .state .frame) (c .frame)
+      same : eqb frames 0 ≡ eqb (r .frame) (c .frame)
       same =
           ⊎-elim
-          (λ z. eq-eqb frames 0 z ∙ sym (eq-eqb (r .state .frame) (c .frame) (omega (arith, frame-within))))
-          (λ z. ne-eqb frames 0 z ∙ sym (ne-eqb (r .state .frame) (c .frame) (λ y. z (omega (arith, frame-within)))))
+          (λ z. eq-eqb frames 0 z ∙ sym (eq-eqb (r .frame) (c .frame) (omega (arith, frame-within))))
+          (λ z. ne-eqb frames 0 z ∙ sym (ne-eqb (r .frame) (c .frame) (λ y. z (omega (arith, frame-within)))))
           (equal frames 0)
-
--- ---- where nothing happens up to the target
-
-module _ (c : State) (t : ℕ) (d : List ℕ) (q : QuietTo c t) {r : Advance} (e : r ≡ record { verdict = Accepted; written = 0; state = movedTo c t (c .servers) }) where
-  same-slice : d ≡ splice d 0 []
-  same-slice = sym (splice-none d 0)
-
-  pub hop-goes : Gives c (timeGoes c t) d (r .verdict) (r .written) (r .state) d
-  hop-goes =
-      rw e
-      (gives-so c (timeGoes c t) d (is-long (timeGoes c t) (length d) refl (omega (arith, ap length (q .lines)))) (sym (ap length (q .lines))) (sym (q .state))
-      (same-slice ∙ ap (splice d 0) (sym (q .lines))))
-
-  all-fit : framesWithin c t (length d) ≡ t - c .frame
-  unfolding fitting
-  all-fit =
-      let k = t - c .frame in
-      ap (λ (n : ℕ). fitting n c (length d)) (let z : k ≡ k + 0 = omega arith in z)
-      ∙ fit-add k 0 c (length d) (omega (arith, ap length (q .lines)))
-      ∙ (let z : k + 0 ≡ k = omega arith in z)
-
-  pub hop-within : Gives c (withinGoes c t (length d)) d (r .verdict) (r .written) (r .state) d
-  hop-within =
-      let ahead = q .ahead in
-      let lines : linesBy (framesWithin c t (length d)) c ≡ [] = ap (λ (n : ℕ). linesBy n c) all-fit ∙ q .lines in
-      let some : (ltb (c .frame) t && eqb (framesWithin c t (length d)) 0) ≡ false = and-right (ltb (c .frame) t) (ne-eqb (framesWithin c t (length d)) 0 (λ z. omega (arith, all-fit))) in
-      rw e
-      (gives-so c (withinGoes c t (length d)) d (is-long (withinGoes c t (length d)) (length d) (other 9 some) (omega (arith, ap length lines))) (sym (ap length lines))
-      (sym (ap (λ (n : ℕ). advancedBy n c) all-fit ∙ q .state)) (same-slice ∙ ap (splice d 0) (sym lines)))

@@ -27,7 +27,8 @@ use Rattle.server.specs.Words.{said}
 use Rattle.frames.specs.declared.Told.{Told}
 use Rattle.lines.specs.Lines.{linesOf}
 use Rattle.group.specs.Frame.{heardAll, heardLines, timedLines}
-use Rattle.frames.specs.Steps.{Out, Hears, Does, isBackup, onlyListens, Turns, JustListens, resting}
+use Rattle.frames.specs.Steps.{ticksIn, Out, Hears, Does, isBackup, onlyListens, Turns, JustListens, resting}
+use Rattle.frames.proofs.Words.{not-so}
 use Rattle.frames.proofs.Writing.{chain, start}
 use Rattle.frames.proofs.Quiet.{no-timer}
 
@@ -207,17 +208,13 @@ module _ (t : ℕ) (x : Server) where
         ap (λ (k : Heard). linesOf t (s .identity) (said (k .event)) ++ heardLines t (k .server) (replicate n (plainOf x))) e ∙ rest .1,
       )
 
-backup-is : (r : Role) → isBackup r ≡ true → r ≡ role.Backup
+pub backup-is : (r : Role) → isBackup r ≡ true → r ≡ role.Backup
 backup-is role.Down e = absurd (clash e refl)
 backup-is role.Idle e = absurd (clash e refl)
 backup-is role.Sync e = absurd (clash e refl)
 backup-is role.Backup e = refl
 backup-is role.Prospect e = absurd (clash e refl)
 backup-is role.Primary e = absurd (clash e refl)
-
-pub not-so : (b : Bool) → not b ≡ true → b ≡ false
-not-so true e = sym e
-not-so false e = refl
 
 -- so all that the sender sent is as one
 pub listens-to : (t : ℕ) (s x : Server) → onlyListens s x ≡ true → (heardAll t s (sentBy x) ≡ setSilence t s) × (heardLines t s (sentBy x) ≡ [])
@@ -233,13 +230,6 @@ listens-to t s x e =
     ap₂ (λ (a b : List Heartbeat). replicate (x .beats) (plainOf x) ++ (a ++ b)) (other {b = []} (revealOf x ∷ []) reveal) (chosen {a = []} (passOf x ∷ []) pass) ∙ append-nil (replicate (x .beats) (plainOf x)) in
     let all = plain-all t x (x .beats) s is beats in
     (ap (heardAll t s) plain ∙ all .0 ∙ ap (λ (k : Heard). k .server) (backup-plain t x s is), ap (heardLines t s) plain ∙ all .1)
-
-pub listens :
-    (t : ℕ) (s x : Server) {k : Server} {wet : Bool} {d : List ℕ} {at : ℕ} → onlyListens s x ≡ true → k ≡ setSilence t s →
-    Hears t wet s (sentBy x) d at (record { server = k; at = at }) d
-listens t s x {k} {wet} {d} {at} e q =
-    let all = listens-to t s x e in
-    record { server = q ∙ sym (all .0); out = subst (λ (l : List ℕ). Out wet d at l at d) (sym (all .1)) start }
 
 -- and where its silence timer is not due at once, that is its turn
 pub just-listens :
@@ -271,4 +261,27 @@ beats-say t p s {x} {wet} {d} {at} {r} {d′} e q o =
     record {
       server = q ∙ sym (ap (λ (m : Timed). m .server) e);
       out = subst (λ (l : List ℕ). Out wet d at l r d′) (sym (ap (timedLines t (s .identity)) e ∙ append-nil (linesOf t (s .identity) (said event.Beat)))) o;
+    }
+
+-- what was sent has no part in the timers
+ticks-cleared : (r : Role) (t : ℕ) (p : Period) (s : Server) → ticksIn r t p (cleared s) ≡ ticksIn r t p s
+ticks-cleared role.Down t p s = refl
+ticks-cleared role.Idle t p s = refl
+ticks-cleared role.Sync t p s = refl
+ticks-cleared role.Backup t p s = refl
+ticks-cleared role.Prospect t p s = refl
+ticks-cleared role.Primary t p s = refl
+
+-- a turn in which nothing is heard and no timer is due
+pub idle-turn :
+    (t : ℕ) (p : Period) (s : Server) {hs : List Heartbeat} {wet : Bool} {d : List ℕ} {at : ℕ} → hs ≡ [] → ticksIn (s .role) t p s ≡ false →
+    Turns hs t p wet s d at (record { server = cleared s; at = at }) d
+unfolding heardAll heardLines timedLines linesOf
+idle-turn t p s {hs} {wet} {d} {at} e h =
+    let rest : timed t p (cleared s) ≡ resting (cleared s) = no-timer t p (cleared s) (s .role) refl (ticks-cleared (s .role) t p s ∙ h) in
+    record {
+      server = sym (ap (λ (x : List Heartbeat). timed t p (heardAll t (cleared s) x) .server) e ∙ ap (λ (m : Timed). m .server) rest);
+      out =
+          subst (λ (l : List ℕ). Out wet d at l at d)
+          (sym (ap (λ (x : List Heartbeat). heardLines t (cleared s) x ++ timedLines t (s .identity) (timed t p (heardAll t (cleared s) x))) e ∙ ap (timedLines t (s .identity)) rest)) start;
     }

@@ -11,3 +11,5 @@ pub mod Listing
 pub mod Loud
 pub mod Bound
 pub mod Fitting
+pub mod Pulsing
+pub mod Beating

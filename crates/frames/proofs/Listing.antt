@@ -1,3 +1,4 @@
+use Rattle.lists.proofs.Cases.{bit-small}
 -- The list of those who sent, and of all ranks. Assumes nothing.
 use mathlib.Core.Bool.{Bool, true, false}
 use mathlib.Core.Path.{_≡_, refl, sym, ap, _∙_}
@@ -16,7 +17,7 @@ use Rattle.server.specs.declared.Server.{Server}
 use Rattle.server.specs.Server.{absent, sentAny}
 use Rattle.frames.specs.Words.{rankNumber, sendingNumber}
 use Rattle.frames.specs.Steps.{sentBelow, Still, Ranked, Sends, Lists}
-use Rattle.frames.proofs.Words.{Fits, choice-bit}
+use Rattle.frames.proofs.Words.{Fits}
 use Rattle.frames.proofs.Lookup.{sent-number}
 use Rattle.frames.proofs.Still.{still-unsent}
 
@@ -115,7 +116,7 @@ module _ {l : List Server} where
       Listing l (set places n i) (set sendings i b) (n + m) (i + 1)
   list-turn {places} {sendings} {n} {i} {m} {b} v h q e =
       let m-is : m ≡ choose (sentAny (getD l i absent)) 1 0 = e ∙ ap (λ (x : ℕ). choose (eqb x 0) 0 1) q ∙ sent-number (getD l i absent) in
-      let bit = choice-bit (sentAny (getD l i absent)) in
+      let bit = bit-small (sentAny (getD l i absent)) in
       let more = listed-more l places n i m (v .room) (v .few) h (v .these) m-is in
       record {
         room = length-set places n i ∙ v .room;
@@ -145,7 +146,7 @@ module _ {l : List Server} where
       record {
         listed = record { few = omega (arith, v .few, v .within); room = v .room; places = v .known };
         these = v .these ∙ listed-rest l m still (16 - i) i 16 h (omega (arith, v .within)) (omega arith);
-        sent = λ k g. let f = fits k g in (sent k g, omega (arith, sent k g, f .beats, f .pass, choice-bit (getD l k absent .reveal)));
+        sent = λ k g. let f = fits k g in (sent k g, omega (arith, sent k g, f .beats, f .pass, bit-small (getD l k absent .reveal)));
         fits = λ k g. (fits k g .identity, fits k g .pass);
       }
     where

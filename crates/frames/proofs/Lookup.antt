@@ -1,5 +1,5 @@
 -- The look-up of the next sender. Assumes nothing.
-use mathlib.Core.Bool.{Bool, true, false, not, _&&_}
+use mathlib.Core.Bool.{Bool, true, false, not, _&&_, _||_}
 use mathlib.Core.Path.{_≡_, refl, sym, ap, ap₂, subst, _∙_}
 use mathlib.Core.List.{List, [], _∷_, _++_, append-nil, List·Memᴰ, List·Memᴰ·head, List·Memᴰ·tail, List·Memᴰ·not-nil, List·Memᴰ·cases-cons, List·Memᴰ·append-cases}
 use mathlib.Core.Logic.{_⊎_, inl, inr, ⊎-elim}
@@ -11,7 +11,7 @@ use lib.Dec.{eqb, ltb}
 use lib.ListN.{length, take, drop, set, getD, replicate, length-set, drop-of-length-le}
 use lib.Seq.{drop-cons, take-set-le, take-suc-set, length-take-le, getD-take, getD-set-other, getD-set-same}
 use Rattle.lists.specs.Choice.{choose}
-use Rattle.lists.proofs.Cases.{tested, less, equal, on, chosen, other, and-left, and-right}
+use Rattle.lists.proofs.Cases.{tested, less, equal, on, chosen, other, and-left, and-right, or-false, bit-small, bit-back}
 use Rattle.heartbeat.specs.declared.Heartbeat.{Heartbeat}
 use Rattle.heartbeat.specs.declared.Rank.{Rank}
 use Rattle.heartbeat.specs.Rank.{higher}
@@ -24,7 +24,7 @@ use Rattle.group.specs.Table.{most}
 use Rattle.group.specs.Hearing.{place, whole, noPlace, hearsFrom, over, isPlace, comes, nextAmong, nextSender, sendersAfter, sentByAll, inbox}
 use Rattle.frames.specs.Words.{rankNumber, sendingNumber}
 use Rattle.frames.specs.Steps.{sentBelow, Still, Ranked, senderOf, Listed, Numbers, Lists, overBy, comesBy, heardBy, bestBy, nextBy, sendersBy, sentOf, inboxBy}
-use Rattle.frames.proofs.Words.{Fits, choice-bit, reveal-bit, parts}
+use Rattle.frames.proofs.Words.{Fits, parts}
 
 -- ---- the numbers of the servers
 
@@ -55,14 +55,14 @@ sent-number s = by (eqb (s .beats) 0) (s .reveal) (eqb (s .pass) 0) refl refl re
 pub sender-same : (s : Server) → s .identity < 65536 → s .pass < 65536 → sentBy (senderOf (rankNumber s) (sendingNumber s)) ≡ sentBy s
 unfolding sentBy
 sender-same s h g =
-    let bit = choice-bit (s .reveal) in
+    let bit = bit-small (s .reveal) in
     let i : rankNumber s % 65536 ≡ s .identity = omega arith in
     let p : rankNumber s / 65536 ≡ s .priority = omega arith in
     let n = parts (s .beats) (choose (s .reveal) 1 0) (s .pass) bit g in
     let b : sendingNumber s / 131072 ≡ s .beats = n .0 .0 in
     let q : sendingNumber s % 65536 ≡ s .pass = n .0 .1 in
     let m : sendingNumber s / 65536 % 2 ≡ choose (s .reveal) 1 0 = n .1 in
-    let v : eqb (sendingNumber s / 65536 % 2) 1 ≡ s .reveal = ap (λ (n : ℕ). eqb n 1) m ∙ reveal-bit (s .reveal) in
+    let v : eqb (sendingNumber s / 65536 % 2) 1 ≡ s .reveal = ap (λ (n : ℕ). eqb n 1) m ∙ bit-back (s .reveal) in
     sends i p b v q
   where
     -- what is sent hangs on five fields
@@ -351,3 +351,47 @@ module _ (r : SenderList) (w : List Bool) (j : ℕ) (v : Numbers r) (one : r .co
 
   pub only-unheard : heardBy w j only ≡ false → inboxBy r w j ≡ []
   only-unheard e = heard-none r w j 16 16 16 (sym (next-of 16 ∙ other _ (comes-first ∙ e))) (omega arith)
+
+-- ---- where a place hears nobody
+
+best-unheard : (ranks : List ℕ) (w : List Bool) (j last best : ℕ) (l : List ℕ) → ((k : ℕ) → k < length l → heardBy w j (getD l k 0) ≡ false) → bestBy ranks w j last best l ≡ best
+best-unheard ranks w j last best [] f = refl
+best-unheard ranks w j last best (i ∷ l) f =
+    ap (λ (b : ℕ). bestBy ranks w j last b l) (other _ (and-left _ (f 0 (omega arith)))) ∙ best-unheard ranks w j last best l (λ k h. f (suc k) (omega arith))
+
+pub unheard : (r : SenderList) (w : List Bool) (j : ℕ) → Listed (r .places) (r .count) → ((k : ℕ) → k < r .count → heardBy w j (getD (r .places) k 0) ≡ false) → inboxBy r w j ≡ []
+unheard r w j v f =
+    let long : length (take (r .count) (r .places)) ≡ r .count = length-take-le (r .count) (r .places) (omega (arith, v .room, v .few)) in
+    heard-none r w j 16 16 16
+    (sym (best-unheard (r .ranks) w j 16 16 (take (r .count) (r .places)) (λ k h. ap (heardBy w j) (getD-take (r .count) (r .places) k 0 (omega arith)) ∙ f k (omega arith))))
+    (omega arith)
+
+-- who hears: the first j places are done
+pub record Also (h : List Bool) (w : List Bool) (i j : ℕ) (r : List Bool) : Type 0 where
+  pub room : length r ≡ 16
+  pub before : (k : ℕ) → k < 16 → getD r k false ≡ false → getD h k false ≡ false
+  pub also : (k : ℕ) → k < j → getD r k false ≡ false → heardBy w k i ≡ false
+
+pub also-turn : {h w : List Bool} {i j : ℕ} {r : List Bool} {x : Bool} → Also h w i j r → j < 16 → x ≡ (getD h j false || heardBy w j i) → Also h w i (j + 1) (set r j x)
+also-turn {h} {w} {i} {j} {r} {x} v m e =
+    record {
+      room = length-set r j x ∙ v .room;
+      before =
+          λ k g z.
+          ⊎-elim
+          (λ q. rw q (here q z .0))
+          (λ q. v .before k g (sym (getD-set-other r j k x false q) ∙ z))
+          (equal k j);
+      also =
+          λ k g z.
+          ⊎-elim
+          (λ q. rw q (here q z .1))
+          (λ q. v .also k (below k g q) (sym (getD-set-other r j k x false q) ∙ z))
+          (equal k j);
+    }
+  where
+    here : {k : ℕ} → k ≡ j → getD (set r j x) k false ≡ false → (getD h j false ≡ false) × (heardBy w j i ≡ false)
+    here q z = or-false (getD h j false) (heardBy w j i) (sym e ∙ sym (getD-set-same r j x false (omega (arith, v .room))) ∙ ap (λ (n : ℕ). getD (set r j x) n false) (sym q) ∙ z)
+
+    below : (k : ℕ) → k < j + 1 → (k ≡ j → ⊥) → k < j
+    below k g q = ⊎-elim (λ l. l) (λ l. absurd (q (omega arith))) (less k j)

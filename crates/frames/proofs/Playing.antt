@@ -1,24 +1,24 @@
 -- Many frames. Assumes nothing.
-use mathlib.Core.Bool.{Bool, true, false, not, _&&_}
+use mathlib.Core.Bool.{Bool, true, false}
 use mathlib.Core.Path.{_≡_, refl, sym, ap, ap₂, subst, _∙_}
 use mathlib.Core.Logic.{_⊎_, inl, inr, ⊎-elim}
 use mathlib.Core.List.{List, [], _∷_, _++_, append-assoc, append-nil}
 use Prim.Native.Nat.{ℕ, zero, suc, _+_, _-_, _≤_, _<_}
 use native.Mathlib.Nat.{zero-add, suc-add}
 use native.Mathlib.Omega.{arith}
-use borrow.Author.Tests.{lt-ltb, le-ltb, ltb-true}
+use borrow.Author.Tests.{lt-ltb, le-ltb}
 use lib.Dec.{ltb}
 use lib.ListN.{length}
 use Rattle.lists.specs.Choice.{choose}
-use Rattle.lists.proofs.Cases.{less, chosen, other, fst-true, snd-true}
+use Rattle.lists.proofs.Cases.{less, chosen, other}
 use Rattle.server.specs.declared.Period.{Period}
 use Rattle.server.specs.declared.Server.{Server}
 use Rattle.group.specs.declared.State.{State}
-use Rattle.frames.specs.Steps.{Ran}
-use Rattle.frames.specs.Steps.{Stepped}
+use Rattle.frames.specs.Words.{serversOf}
 use Rattle.group.specs.Frame.{advanced, frameLines, movedTo}
 use Rattle.group.specs.Advance.{advancedBy, linesBy}
-use Rattle.frames.specs.Steps.{Out, Still, Ranked, QuietTo, anySent, stateOf, Runs, TicksAll, Moves, AllRest, Before, Steps, Jumps, Goes}
+use Rattle.frames.specs.Steps.{Ran, Stepped, Out, Still, Ranked, anySent, Runs, TicksAll, Moves, AllRest, Before, Steps, Jumps, Goes}
+use Rattle.frames.specs.Answers.{stateOf}
 use Rattle.group.proofs.Places.{frame-after}
 use Rattle.frames.proofs.Writing.{Toward, start, begin, turn, finish}
 use Rattle.frames.proofs.Quiet.{ticks-frame, skip}
@@ -173,16 +173,16 @@ module _ {wet : Bool} {c : State} {target : ℕ} {d₀ : List ℕ} {at₀ : ℕ}
             same (g .steps .out);
       }
 
-  pub play-end :
-      {l : List Server} {t : ℕ} {d : List ℕ} {at : ℕ} {x : State} → Playing wet c target d₀ at₀ d l t at → target ≤ t → x ≡ movedTo c t l →
-      Moves wet (advancedBy (target - c .frame) c) (linesBy (target - c .frame) c) d₀ at₀ (record { state = x; at = at }) d
-  unfolding advancedBy linesBy
-  play-end {l} {t} {d} {at} {x} v h q =
-      let z : target - t ≡ 0 = omega arith in
-      record {
-        channel = q ∙ ap (λ (n : ℕ). advancedBy n (movedTo c t l)) (sym z) ∙ v .rest;
-        out = finish (v .out) (ap (λ (n : ℕ). linesBy n (movedTo c t l)) z);
-      }
+pub play-end :
+    {wet : Bool} {c : State} {target : ℕ} {d₀ : List ℕ} {w : List ℕ} {t : ℕ} {d : List ℕ} {at : ℕ} → Playing wet c target d₀ 0 d (serversOf w) t at → target ≤ t →
+    Moves wet c target d₀ (record { words = w; frame = t; at = at }) d
+unfolding advancedBy linesBy
+play-end {wet} {c} {target} {d₀} {w} {t} v h =
+    let z : target - t ≡ 0 = omega arith in
+    record {
+      channel = ap (λ (n : ℕ). advancedBy n (movedTo c t (serversOf w))) (sym z) ∙ v .rest;
+      out = finish (v .out) (ap (λ (n : ℕ). linesBy n (movedTo c t (serversOf w))) z);
+    }
 
 -- ---- after some frames: who was still is still, and the ranks are the same
 
@@ -195,21 +195,3 @@ module _ {wet : Bool} {k : ℕ} {c : State} {d : List ℕ} {at : ℕ} {r : Stepp
 
   pub steps-ranked : {v : List ℕ} → Ranked v (c .servers) → Ranked v (r .servers)
   steps-ranked {v} q = subst (Ranked v) servers-then (ranked-after k c long q)
-
--- ---- nothing at all
-
-not-so : (x : Bool) → not x ≡ true → x ≡ false
-not-so true z = sym z
-not-so false z = refl
-
-pub quiet-to :
-    (c : State) → length (c .servers) ≡ 16 → {b : Bool} {f t : ℕ} → b ≡ anySent (c .servers) → AllRest (c .frame) (c .period) (c .servers) f →
-    (ltb (c .frame) t && (not b && ltb t f)) ≡ true → QuietTo c t
-quiet-to c long {b} {f} {t} q rest e =
-    let ahead = ltb-true (c .frame) t (fst-true (ltb (c .frame) t) _ e) in
-    let more = snd-true (ltb (c .frame) t) _ e in
-    let quiet = sym q ∙ not-so b (fst-true (not b) _ more) in
-    let early = ltb-true t f (snd-true (not b) _ more) in
-    let sum : c .frame + (t - c .frame) ≡ t = omega arith in
-    let s = skip (t - c .frame) c f quiet long rest (inr (omega arith)) in
-    record { ahead = ahead; state = s .0 ∙ ap (λ (n : ℕ). movedTo c n (c .servers)) sum; lines = s .1 }

@@ -34,16 +34,13 @@ use Rattle.group.proofs.Places.{place-advanced, long-advanced}
 use Rattle.group.proofs.Laws.{rank-heard, rank-ticked}
 use Rattle.frames.specs.Words.{rankNumber}
 use Rattle.frames.specs.Steps.{stillIn, isStill, Still, Ranked, anySent, ticked, tickLines, resting, Rests, AllRest}
+use Rattle.frames.proofs.Words.{not-so, not-some}
 use Rattle.frames.proofs.Quiet.{clear-already, rests-down, rests-idle, rests-sync, Resting}
 
 -- ---- the loop that finds the first place from which on all are still
 
 pub still-begin : {l : List Server} → Still 16 l
 still-begin = record { few = omega arith; still = λ i h g. absurd (omega arith) }
-
-not-false : (x : Bool) → not x ≡ false → x ≡ true
-not-false true z = refl
-not-false false z = sym z
 
 pub still-less : {l : List Server} {n : ℕ} {b : Bool} → Still n l → 0 < n → b ≡ isStill (getD l (n - 1) absent) → not b ≡ false → Still (n - 1) l
 still-less {l} {n} {b} v h e f =
@@ -52,7 +49,7 @@ still-less {l} {n} {b} v h e f =
       still =
           λ i g k.
           ⊎-elim
-          (λ q. let w : i ≡ n - 1 = omega arith in rw w (sym e ∙ not-false b f))
+          (λ q. let w : i ≡ n - 1 = omega arith in rw w (sym e ∙ not-some b f))
           (λ q. v .still i q k)
           (less i n);
     }
@@ -73,14 +70,10 @@ role-of-still s Backup q e = absurd (clash e refl)
 role-of-still s Prospect q e = absurd (clash e refl)
 role-of-still s Primary q e = absurd (clash e refl)
 
-not-true : (x : Bool) → not x ≡ true → x ≡ false
-not-true true z = sym z
-not-true false z = refl
-
 unsent-in : (r : Role) (b : Bool) → stillIn r b ≡ true → b ≡ false
-unsent-in Down b e = not-true b e
-unsent-in Idle b e = not-true b e
-unsent-in Sync b e = not-true b e
+unsent-in Down b e = not-so b e
+unsent-in Idle b e = not-so b e
+unsent-in Sync b e = not-so b e
 unsent-in Backup b e = absurd (clash e refl)
 unsent-in Prospect b e = absurd (clash e refl)
 unsent-in Primary b e = absurd (clash e refl)
@@ -130,7 +123,7 @@ module _ (s : Server) (e : isStill s ≡ true) where
       by (idle q) = rests-idle (t - 1) p s (t + 1) q .rests t (omega arith) (omega arith)
       by (sync q) = rests-sync (t - 1) p s (t + 1) q .rests t (omega arith) (omega arith)
 
-  still-rests : (t : ℕ) (p : Period) (r : ℕ) → Rests t p s r
+  pub still-rests : (t : ℕ) (p : Period) (r : ℕ) → Rests t p s r
   still-rests t p r = record { rests = λ u a b. still-timed u p (omega arith) }
 
   pub still-ticked : (t : ℕ) (p : Period) → 0 < t → (timed t p s .server ≡ s) × (timedLines t (s .identity) (timed t p s) ≡ [])

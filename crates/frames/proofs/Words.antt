@@ -1,5 +1,5 @@
 -- Servers as numbers: what is stored is read again, and nothing else is changed. Assumes nothing.
-use mathlib.Core.Bool.{Bool, true, false}
+use mathlib.Core.Bool.{Bool, true, false, not}
 use mathlib.Core.Path.{_≡_, refl, sym, ap, ap₂, _∙_}
 use mathlib.Core.Logic.{⊎-elim, _≢_}
 use mathlib.Core.List.{List, [], _∷_}
@@ -9,13 +9,22 @@ use lib.Dec.{eqb}
 use lib.ListN.{length, getD, set, length-set}
 use lib.Seq.{getD-set-same, getD-set-other, ext-getD}
 use Rattle.lists.specs.Choice.{choose}
-use Rattle.lists.proofs.Cases.{equal, less}
+use Rattle.lists.proofs.Cases.{equal, less, bit-small, bit-back}
 use Rattle.server.specs.declared.Role.{Role}
 use Rattle.server.specs.declared.Role.the-variants.{Down, Idle, Sync, Backup, Prospect, Primary}
 use Rattle.server.specs.declared.Server.{Server}
 use Rattle.server.specs.Verbs.{roleNumber}
-use Rattle.server.specs.Server.{absent, setSilence, cleared}
+use Rattle.server.specs.Server.{absent, setSilence, setBeat, cleared}
 use Rattle.frames.specs.Words.{roleOf, rankNumber, sendingNumber, headNumber, serverOf, serverAt, serversFrom, serversOf}
+
+-- a test turned round
+pub not-so : (t : Bool) → not t ≡ true → t ≡ false
+not-so true e = sym e
+not-so false e = refl
+
+pub not-some : (t : Bool) → not t ≡ false → t ≡ true
+not-some true e = refl
+not-some false e = sym e
 
 -- a server whose numbers fit their fields
 pub record Fits (s : Server) : Type 0 where
@@ -41,16 +50,6 @@ role-small Backup = omega arith
 role-small Prospect = omega arith
 role-small Primary = omega arith
 
-pub choice-bit : (b : Bool) → choose b 1 0 ≤ 1
-unfolding choose
-choice-bit true = omega arith
-choice-bit false = omega arith
-
-pub reveal-bit : (b : Bool) → eqb (choose b 1 0) 1 ≡ b
-unfolding choose
-reveal-bit true = refl
-reveal-bit false = refl
-
 -- the parts of the number of what was sent
 pub parts : (b v q : ℕ) → v ≤ 1 → q < 65536 → ((((b * 2 + v) * 65536 + q) / 131072 ≡ b) × (((b * 2 + v) * 65536 + q) % 65536 ≡ q)) × (((b * 2 + v) * 65536 + q) / 65536 % 2 ≡ v)
 parts b v q h g =
@@ -71,9 +70,9 @@ server-back s f =
     let u : headNumber s / 65536 ≡ roleNumber (s .role) * 256 + s .priority = omega arith in
     let p : headNumber s / 65536 % 256 ≡ s .priority = ap (λ (n : ℕ). n % 256) u ∙ (let e : (roleNumber (s .role) * 256 + s .priority) % 256 ≡ s .priority = omega arith in e) in
     let r : headNumber s / 16777216 ≡ roleNumber (s .role) = omega arith in
-    let n = parts (s .beats) (choose (s .reveal) 1 0) (s .pass) (choice-bit (s .reveal)) (f .pass) in
+    let n = parts (s .beats) (choose (s .reveal) 1 0) (s .pass) (bit-small (s .reveal)) (f .pass) in
     let b : sendingNumber s / 131072 % 256 ≡ s .beats = ap (λ (m : ℕ). m % 256) (n .0 .0) ∙ (let beats = f .beats in let e : s .beats % 256 ≡ s .beats = omega arith in e) in
-    let v : eqb (sendingNumber s / 65536 % 2) 1 ≡ s .reveal = ap (λ (m : ℕ). eqb m 1) (n .1) ∙ reveal-bit (s .reveal) in
+    let v : eqb (sendingNumber s / 65536 % 2) 1 ≡ s .reveal = ap (λ (m : ℕ). eqb m 1) (n .1) ∙ bit-back (s .reveal) in
     same i p (ap roleOf r ∙ role-back (s .role)) b v (n .0 .1)
   where
     same :
@@ -255,6 +254,77 @@ module _ (w : List ℕ) (i t : ℕ) (long : length w ≡ 80) (h : i < 16) where
       (λ e. rw e (heard-here ∙ ap (λ (x : Server). setSilence t (cleared x)) (sym (at-of w i absent h)) ∙ sym (getD-set-same (serversOf w) i s absent (omega (arith, long-of w)))))
       (λ e. heard-there j e ∙ sym (getD-set-other (serversOf w) i j s absent e ∙ at-of w j absent (omega arith)))
       (equal j i))
+
+-- ---- one number of a server stored
+
+module _ (w : List ℕ) (i k v : ℕ) (long : length w ≡ 80) (h : i < 16) (g : k < 5) where
+  abbrev one-put : List ℕ
+  one-put = set w (5 * i + k) v
+
+  one-there : (j : ℕ) → j ≢ i → serverAt one-put j ≡ serverAt w j
+  one-there j n =
+      rw (
+        getD-set-other w (5 * i + k) (5 * j) v 0 (λ z. n (omega arith)),
+        getD-set-other w (5 * i + k) (5 * j + 1) v 0 (λ z. n (omega arith)),
+        getD-set-other w (5 * i + k) (5 * j + 2) v 0 (λ z. n (omega arith)),
+        getD-set-other w (5 * i + k) (5 * j + 3) v 0 (λ z. n (omega arith)),
+        getD-set-other w (5 * i + k) (5 * j + 4) v 0 (λ z. n (omega arith)),
+      )
+
+  one-is : serversOf one-put ≡ set (serversOf w) i (serverAt one-put i)
+  one-is =
+      let s = serverAt one-put i in
+      ext-getD absent (serversOf one-put) (set (serversOf w) i s) (long-of one-put ∙ sym (length-set (serversOf w) i s ∙ long-of w))
+      (λ j e.
+      let l = long-of one-put in
+      at-of one-put j absent (omega arith)
+      ∙ ⊎-elim
+      (λ q. rw q (sym (getD-set-same (serversOf w) i s absent (omega (arith, long-of w)))))
+      (λ q. one-there j q ∙ sym (getD-set-other (serversOf w) i j s absent q ∙ at-of w j absent (omega arith)))
+      (equal j i))
+
+module _ (w : List ℕ) (i v : ℕ) (long : length w ≡ 80) (h : i < 16) where
+  pub silence-is : serversOf (set w (5 * i + 1) v) ≡ set (serversOf w) i (setSilence v (getD (serversOf w) i absent))
+  unfolding serverOf
+  silence-is =
+      one-is w i 1 v long h (omega arith)
+      ∙ ap (set (serversOf w) i)
+      (rw (
+        getD-set-other w (5 * i + 1) (5 * i) v 0 (λ z. omega arith),
+        getD-set-same w (5 * i + 1) v 0 (omega arith),
+        getD-set-other w (5 * i + 1) (5 * i + 2) v 0 (λ z. omega arith),
+        getD-set-other w (5 * i + 1) (5 * i + 3) v 0 (λ z. omega arith),
+        getD-set-other w (5 * i + 1) (5 * i + 4) v 0 (λ z. omega arith),
+        at-of w i absent h,
+      ) refl)
+
+  pub clear-is : serversOf (set w (5 * i + 4) 0) ≡ set (serversOf w) i (cleared (getD (serversOf w) i absent))
+  unfolding serverOf
+  clear-is =
+      one-is w i 4 0 long h (omega arith)
+      ∙ ap (set (serversOf w) i)
+      (rw (
+        getD-set-other w (5 * i + 4) (5 * i) 0 0 (λ z. omega arith),
+        getD-set-other w (5 * i + 4) (5 * i + 1) 0 0 (λ z. omega arith),
+        getD-set-other w (5 * i + 4) (5 * i + 2) 0 0 (λ z. omega arith),
+        getD-set-other w (5 * i + 4) (5 * i + 3) 0 0 (λ z. omega arith),
+        getD-set-same w (5 * i + 4) 0 0 (omega arith),
+        at-of w i absent h,
+      ) refl)
+
+  pub beat-is : serversOf (set w (5 * i + 2) v) ≡ set (serversOf w) i (setBeat v (getD (serversOf w) i absent))
+  unfolding serverOf
+  beat-is =
+      one-is w i 2 v long h (omega arith)
+      ∙ ap (set (serversOf w) i)
+      (rw (
+        getD-set-other w (5 * i + 2) (5 * i) v 0 (λ z. omega arith),
+        getD-set-other w (5 * i + 2) (5 * i + 1) v 0 (λ z. omega arith),
+        getD-set-same w (5 * i + 2) v 0 (omega arith),
+        getD-set-other w (5 * i + 2) (5 * i + 3) v 0 (λ z. omega arith),
+        getD-set-other w (5 * i + 2) (5 * i + 4) v 0 (λ z. omega arith),
+        at-of w i absent h,
+      ) refl)
 
 -- ---- lists copied one by one: the first i of m are those of l
 

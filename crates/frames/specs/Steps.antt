@@ -16,19 +16,23 @@ use Rattle.server.specs.declared.Event.the-variants.{Nothing}
 use Rattle.server.specs.declared.Period.{Period}
 use Rattle.server.specs.declared.Server.{Server}
 use Rattle.server.specs.declared.Timed.{Timed}
-use Rattle.server.specs.Server.{absent, setSilence, cleared, sentBy, sentAny}
+use Rattle.server.specs.declared.Said.the-variants.{One}
+use Rattle.server.specs.declared.Word.the-variants.{Beat}
+use Rattle.server.specs.Server.{absent, setSilence, setBeat, cleared, sentBy, sentAny}
 use Rattle.server.specs.Period.{silenceLimit, prospectLimit, beatLimit}
 use Rattle.server.specs.Timers.{aged, timed}
-use Rattle.lines.specs.Lines.{placeAfter}
+use Rattle.lines.specs.Lines.{placeAfter, linesOf}
 use Rattle.group.specs.declared.State.{State}
 use Rattle.group.specs.Table.{most}
 use Rattle.group.specs.Hearing.{linkOf, isPlace}
 use Rattle.group.specs.Frame.{heardAll, heardLines, timedLines, movedTo, advanced, frameLines}
 use Rattle.group.specs.Advance.{advancedBy, linesBy, framesWithin}
 use Rattle.frames.specs.declared.Told.{Told}
-use Rattle.frames.specs.declared.Moved.{Moved}
-use Rattle.frames.specs.Words.{rankNumber, sendingNumber}
+use Rattle.frames.specs.declared.Played.{Played}
+use Rattle.frames.specs.Words.{rankNumber, sendingNumber, serversOf}
+use Rattle.frames.specs.Answers.{stateOf}
 use Rattle.frames.specs.declared.Stretched.{Stretched}
+use Rattle.frames.specs.declared.Pulse.{Pulse}
 
 -- ---- lines, written or only counted
 
@@ -210,10 +214,17 @@ sentOf r (i ∷ is) = sentBy (senderOf (getD (r .ranks) i 0) (getD (r .sendings)
 abbrev pub inboxBy : SenderList → List Bool → ℕ → List Heartbeat
 inboxBy r w j = sentOf r (sendersBy r w j most most)
 
--- ---- a frame
+-- r has the places that h has, and those that hear place i
+pub record HeardAlso (h : List Bool) (w : List Bool) (i : ℕ) (r : List Bool) : Type 0 where
+  pub before : (j : ℕ) → j < most → getD r j false ≡ false → getD h j false ≡ false
+  pub also : (j : ℕ) → j < most → getD r j false ≡ false → heardBy w j i ≡ false
 
-abbrev pub stateOf : ℕ → Period → List Server → List Bool → State
-stateOf t p l w = record { frame = t; period = p; servers = l; whole = w }
+-- who is not in r hears none of the first n of l
+pub record Hearers (l : List ℕ) (w : List Bool) (n : ℕ) (r : List Bool) : Type 0 where
+  pub room : length r ≡ most
+  pub none : (j : ℕ) → j < most → getD r j false ≡ false → (k : ℕ) → k < n → heardBy w j (getD l k 0) ≡ false
+
+-- ---- a frame
 
 -- all servers after a frame, and the place after what they said
 pub record Ran : Type 0 where
@@ -248,11 +259,6 @@ pub record TicksAll (wet : Bool) (t : ℕ) (p : Period) (l : List Server) (d : L
   pub servers : r .servers ≡ mapFrom 0 (ticked t p) l
   pub out : Out wet d at (tickLines t p l) (r .at) d′
 
--- c was reached, and w said
-pub record Moves (wet : Bool) (c : State) (w : List ℕ) (d : List ℕ) (at : ℕ) (r : Moved) (d′ : List ℕ) : Type 0 where
-  pub channel : r .state ≡ c
-  pub out : Out wet d at w (r .at) d′
-
 -- ---- quiet frames
 
 -- a timer set in s with the limit n is not due after the frame t and before r
@@ -276,12 +282,6 @@ pub record Before (f t target r : ℕ) : Type 0 where
   pub from : t ≤ r
   pub to : r ≤ target
   pub early : (r ≡ t) ⊎ (r < f)
-
--- nothing happens from c up to the frame t, which is ahead
-pub record QuietTo (c : State) (t : ℕ) : Type 0 where
-  pub ahead : c .frame < t
-  pub state : advancedBy (t - c .frame) c ≡ movedTo c t (c .servers)
-  pub lines : linesBy (t - c .frame) c ≡ []
 
 -- ---- many frames
 
@@ -310,6 +310,55 @@ pub record Goes (wet : Bool) (c : State) (target : ℕ) (d : List ℕ) (at : ℕ
   pub within : c .frame + count ≤ target
   pub steps : Steps wet count c d at r d′
 
+-- all frames from c up to the target
+pub record Moves (wet : Bool) (c : State) (target : ℕ) (d : List ℕ) (r : Played) (d′ : List ℕ) : Type 0 where
+  pub channel : movedTo c (r .frame) (serversOf (r .words)) ≡ advancedBy (target - c .frame) c
+  pub out : Out wet d 0 (linesBy (target - c .frame) c) (r .at) d′
+
+-- ---- a calm group: one primary beats, and every other server hears it, or neither hears nor has a timer
+
+-- place i after a beat of place b in frame f, which was heard in the next
+abbrev pub pulsed : ℕ → ℕ → ℕ → Server → Server
+pulsed b f i s = choose (eqb i b) (setBeat f s) (choose (isBackup (s .role)) (setSilence (f + 1) s) s)
+
+-- the backup s at place i hears place b, and its timer is not due after the frame t and up to f
+pub record Listens (p : Period) (w : List Bool) (b i t f : ℕ) (s : Server) : Type 0 where
+  pub role : s .role ≡ Backup
+  pub link : getD w (linkOf b i) false ≡ true
+  pub waits : NotDue (s .silence) (silenceLimit p) t (f + 1)
+
+-- nobody sent in frame t, and what happens next is the beat of place b in frame f
+pub record Calm (p : Period) (w : List Bool) (l : List Server) (b t f : ℕ) : Type 0 where
+  pub place : b < most
+  pub primary : getD l b absent .role ≡ Primary
+  pub next : getD l b absent .beat + beatLimit p ≡ f
+  pub ahead : t < f
+  pub long : 1 < beatLimit p
+  pub unsent : (i : ℕ) → i < most → sentAny (getD l i absent) ≡ false
+  pub others : (i : ℕ) → i < most → (i ≡ b → ⊥) → (isStill (getD l i absent) ≡ true) ⊎ Listens p w b i t f (getD l i absent)
+
+-- a server that does nothing until a verb, or a backup that hears and whose timer is not due after the frame t and up to f
+abbrev pub Waits : Period → Bool → ℕ → ℕ → Server → Type 0
+Waits p link t f s = (isStill s ≡ true) ⊎ ((s .role ≡ Backup) × ((link ≡ true) × NotDue (s .silence) (silenceLimit p) t (f + 1)))
+
+-- so is every place below n but b, which it hears
+abbrev pub AllWait : List Server → List Bool → Period → ℕ → ℕ → ℕ → ℕ → Type 0
+AllWait l w p b t f n = (i : ℕ) → i < n → (i ≡ b → ⊥) → Waits p (getD w (linkOf b i) false) t f (getD l i absent)
+
+-- the lines of n beats of identity i from the frame f on, p frames apart
+abbrev pub beatLines : ℕ → ℕ → ℕ → ℕ → List ℕ
+beatLines f p i zero = []
+beatLines f p i (suc n) = linesOf f i (One Beat) ++ beatLines (f + p) p i n
+
+-- beats before the target, whose lines fit
+pub record Beats (f p target i : ℕ) (d : List ℕ) (at : ℕ) (r : Pulse) (d′ : List ℕ) : Type 0 where
+  pub count : ℕ
+  pub next : r .next ≡ f + count * p
+  pub before : (n : ℕ) → count ≡ suc n → f + n * p < target
+  pub kept : length d′ ≡ length d
+  pub fits : at + length (beatLines f p i count) ≤ length d
+  pub out : Out true d at (beatLines f p i count) (r .at) d′
+
 -- ---- as many frames as fit
 
 -- the most bytes that a frame can write where no number of what was sent is greater
@@ -331,7 +380,7 @@ pub record Stretches (c : State) (target : ℕ) (d : List ℕ) (at : ℕ) (l : L
   pub stop : r .full ≡ true → (c .frame + count < target) × (length d < at + length (linesBy count c) + length (frameLines (advancedBy count c)))
 
 -- as many frames as fit
-pub record MovesWithin (c : State) (target : ℕ) (d : List ℕ) (r : Moved) (d′ : List ℕ) : Type 0 where
-  pub channel : r .state ≡ advancedBy (framesWithin c target (length d)) c
+pub record MovesWithin (c : State) (target : ℕ) (d : List ℕ) (r : Played) (d′ : List ℕ) : Type 0 where
+  pub channel : movedTo c (r .frame) (serversOf (r .words)) ≡ advancedBy (framesWithin c target (length d)) c
   pub fits : length (linesBy (framesWithin c target (length d)) c) ≤ length d
   pub out : Out true d 0 (linesBy (framesWithin c target (length d)) c) (r .at) d′

@@ -1,5 +1,5 @@
 // One frame after another: what the servers hear, their timers, and the lines of it.
-use group::State;
+use group::Table;
 use heartbeat::Heartbeat;
 use refusal::Refusal;
 use refusal::Verdict;
@@ -16,17 +16,20 @@ ghost use Prim.Native.Nat.{_+_, _-_, _<_, _≤_};
 ghost use lib.Dec.{leb, ltb, eqb};
 ghost use lib.ListN.{length, replicate, take, getD, set};
 ghost use Rattle.lists.specs.Choice.{choose};
+ghost use Rattle.lists.specs.Lists.{mapFrom};
+ghost use Rattle.server.specs.Period.{beatLimit};
 ghost use Rattle.server.specs.Server.{absent, setSilence, setBeat, oneMore, sendBeat, cleared, passOf, sentBy};
 ghost use Rattle.server.specs.Verbs.{roleNumber};
 ghost use Rattle.server.specs.Words.{said};
 ghost use Rattle.server.specs.Timers.{aged, timed};
 ghost use Rattle.lines.specs.Lines.{linesOf};
+ghost use Rattle.group.specs.Table.{placeIn};
 ghost use Rattle.group.specs.Hearing.{isPlace};
-ghost use Rattle.group.specs.Frame.{timedLines, frameLines, movedTo};
-ghost use Rattle.group.specs.Advance.{advancedBy, linesBy, timeGoes, withinGoes};
-ghost use Rattle.group.specs.Answers.{Gives};
+ghost use Rattle.group.specs.Frame.{timedLines, frameLines};
+ghost use Rattle.group.specs.Advance.{timeGoes, withinGoes};
 ghost use Rattle.frames.specs.Words.{roleOf, rankNumber, sendingNumber, serverOf, serversOf};
-ghost use Rattle.frames.specs.Steps.{Out, Hears, Does, JustListens, TurnsAt, isBackup, isPrimary, onlyListens, senderOf, Ranked, isStill, Still, overBy, comesBy, bestBy, inboxBy, Listed, Numbers, Sends, Lists, Turns, ticksIn, stateOf, Runs, TicksAt, TicksAll, Moves, NotDue, Rests, AllRest, Before, Steps, Goes, anySent, QuietTo, Loud, Jumps, mostBytes, Fares, Stretches, MovesWithin};
+ghost use Rattle.frames.specs.Answers.{stateOf, Advances};
+ghost use Rattle.frames.specs.Steps.{Out, Hears, Does, JustListens, TurnsAt, isBackup, isPrimary, onlyListens, senderOf, Ranked, isStill, Still, overBy, comesBy, bestBy, inboxBy, Listed, Numbers, Sends, Lists, Turns, ticksIn, Runs, TicksAt, TicksAll, Moves, NotDue, Rests, AllRest, Before, Steps, Goes, Loud, Jumps, mostBytes, Fares, Stretches, MovesWithin, pulsed, Waits, AllWait, Calm, Beats, HeardAlso, Hearers};
 
 // The lines of an event, written or only counted.
 fn say_event(out: &mut [u8], wet: bool, at: usize, frame: u32, identity: u16, event: Event) -> usize
@@ -148,27 +151,6 @@ fn only_listens(s: Server, sender: Server) -> bool
 {
     let role = s.role;
     is_backup(role) & ((sender.beats != 0) & (!sender.reveal & (sender.pass == 0)))
-}
-
-// The silence timer set.
-fn listened(s: Server, frame: u32) -> Server
-    ensures { λ r. ⌜ r ≡ setSilence frame s ⌝ }
-{
-    let mut next = s;
-    next.silence = frame;
-    next
-}
-
-// One sender's heartbeats; where a backup hears plain beats, one is as good as all.
-fn hear_sender(s: Server, frame: u32, sender: Server, out: &mut [u8], wet: bool, at: usize) -> Told
-    ensures { λ r. ⌜ Hears frame wet s (sentBy sender) (now (out .entry)) at r (now (out .exit)) ⌝ }
-{
-    if only_listens(s, sender) {
-        let next = listened(s, frame);
-        Told { server: next, at }
-    } else {
-        hear_each(s, frame, sender, out, wet, at)
-    }
 }
 
 fn run_timers(s: Server, frame: u32, period: Period, out: &mut [u8], wet: bool, at: usize) -> Told
@@ -330,7 +312,8 @@ fn store(words: &mut [u32; 80], i: usize, s: Server)
     words[k + 4] = sending;
 }
 
-fn words_of(servers: [Server; 16]) -> [u32; 80]
+// The servers as numbers.
+pub fn words_of(servers: [Server; 16]) -> [u32; 80]
     ensures { λ r. ⌜ serversOf r ≡ servers ⌝ }
 {
     let mut words: [u32; 80] = [0; 80];
@@ -342,7 +325,8 @@ fn words_of(servers: [Server; 16]) -> [u32; 80]
     words
 }
 
-fn servers_of(words: &[u32; 80]) -> [Server; 16]
+// The servers of the numbers.
+pub fn servers_of(words: &[u32; 80]) -> [Server; 16]
     ensures { λ r. ⌜ r ≡ serversOf (now (words .entry)) ⌝ }
 {
     let nobody = Server::absent();
@@ -356,13 +340,50 @@ fn servers_of(words: &[u32; 80]) -> [Server; 16]
     servers
 }
 
-fn ranks_of(servers: [Server; 16]) -> [u32; 16]
-    ensures { λ r. ⌜ Ranked r servers ⌝ }
+// The server of place i; nobody beyond the last place.
+pub fn server(words: &[u32; 80], i: usize) -> Server
+    ensures { λ r. ⌜ r ≡ getD (serversOf (now (words .entry))) i absent ⌝ }
+{
+    if i < Table::SERVERS {
+        server_at(words, i)
+    } else {
+        Server::absent()
+    }
+}
+
+// The server of place i replaced; nothing beyond the last place.
+pub fn stored(words: [u32; 80], i: usize, s: Server) -> [u32; 80]
+    ensures { λ r. ⌜ serversOf r ≡ set (serversOf words) i s ⌝ }
+{
+    let mut next = words;
+    if i < Table::SERVERS {
+        store(&mut next, i, s);
+    }
+    next
+}
+
+// The place of an identity; beyond the last place where there is none.
+pub fn place_in(words: &[u32; 80], identity: u16) -> usize
+    ensures { λ r. ⌜ r ≡ placeIn (serversOf (now (words .entry))) identity ⌝ }
+{
+    let mut i: usize = 0;
+    while i < Table::SERVERS {
+        let s = server_at(words, i);
+        if s.identity == identity {
+            return i;
+        }
+        i += 1;
+    }
+    i
+}
+
+fn ranks_of(words: &[u32; 80]) -> [u32; 16]
+    ensures { λ r. ⌜ Ranked r (serversOf (now (words .entry))) ⌝ }
 {
     let mut ranks: [u32; 16] = [0; 16];
     let mut i: usize = 0;
     while i < 16 {
-        let rank = rank_number(servers[i]);
+        let rank = rank_number(server_at(words, i));
         ranks[i] = rank;
         i += 1;
     }
@@ -387,12 +408,12 @@ fn is_still(s: Server) -> bool
 }
 
 // From this place on, all are still: they are left out of every loop.
-fn still_from(servers: [Server; 16]) -> usize
-    ensures { λ r. ⌜ Still r servers ⌝ }
+fn still_from(words: &[u32; 80]) -> usize
+    ensures { λ r. ⌜ Still r (serversOf (now (words .entry))) ⌝ }
 {
     let mut n: usize = 16;
     while n > 0 {
-        if !is_still(servers[n - 1]) {
+        if !is_still(server_at(words, n - 1)) {
             return n;
         }
         n -= 1;
@@ -401,12 +422,6 @@ fn still_from(servers: [Server; 16]) -> usize
 }
 
 // ---- who is heard next
-
-// A state, and the place after the lines that led to it.
-struct Moved {
-    state: State,
-    at: usize,
-}
 
 fn one_if(n: u32) -> usize
     ensures { λ r. ⌜ r ≡ choose (eqb n 0) 0 1 ⌝ }
@@ -543,7 +558,7 @@ fn hear_only(
     let i = places[0];
     if (i != j) & whole[16 * i + j] {
         let from = sender(ranks[i], sendings[i]);
-        hear_sender(s, frame, from, out, wet, at)
+        hear_each(s, frame, from, out, wet, at)
     } else {
         Told { server: s, at }
     }
@@ -726,8 +741,45 @@ fn listen_at(words: &mut [u32; 80], j: usize, frame: u32)
     words[k + 4] = 0;
 }
 
-// The turn of place j.
-fn turn_at(
+// Who hears place i, beside those who hear another.
+fn hear_also(heard: [bool; 16], whole: &[bool; 256], i: usize) -> [bool; 16]
+    requires { ⌜ i < 16 ⌝ }
+    ensures { λ r. ⌜ HeardAlso heard (now (whole .entry)) i r ⌝ }
+{
+    let mut next = heard;
+    let mut j: usize = 0;
+    while j < 16 {
+        next[j] = heard[j] | ((i != j) & whole[16 * i + j]);
+        j += 1;
+    }
+    next
+}
+
+// Which places hear somebody.
+fn hearers(places: &[usize; 16], whole: &[bool; 256], count: usize) -> [bool; 16]
+    requires { ⌜ Listed (now places) count ⌝ }
+    ensures { λ r. ⌜ Hearers (now (places .entry)) (now (whole .entry)) count r ⌝ }
+{
+    let mut heard = [false; 16];
+    let mut k: usize = 0;
+    while k < count {
+        let more = hear_also(heard, whole, places[k]);
+        heard = more;
+        k += 1;
+    }
+    heard
+}
+
+// Nothing sent at place j.
+fn clear_at(words: &mut [u32; 80], j: usize)
+    requires { ⌜ (length (now words) ≡ 80) × (j < 16) ⌝ }
+    ensures { λ _. ⌜ (length (now (words .exit)) ≡ 80) × (serversOf (now (words .exit)) ≡ set (serversOf (now (words .entry))) j (cleared (getD (serversOf (now (words .entry))) j absent))) ⌝ }
+{
+    words[5 * j + 4] = 0;
+}
+
+// The turn of a place that hears somebody or has a timer due.
+fn act_at(
     words: &mut [u32; 80],
     places: &[usize; 16],
     ranks: &[u32; 16],
@@ -737,14 +789,14 @@ fn turn_at(
     frame: u32,
     period: Period,
     j: usize,
+    s: Server,
     out: &mut [u8],
     wet: bool,
     at: usize,
 ) -> usize
-    requires { ⌜ (length (now words) ≡ 80) × ((j < 16) × Numbers (record { places = now places; ranks = now ranks; sendings = now sendings; count = count })) ⌝ }
+    requires { ⌜ (s ≡ getD (serversOf (now words)) j absent) × ((length (now words) ≡ 80) × ((j < 16) × Numbers (record { places = now places; ranks = now ranks; sendings = now sendings; count = count }))) ⌝ }
     ensures { λ r. ⌜ (length (now (words .exit)) ≡ 80) × TurnsAt (inboxBy (record { places = now (places .entry); ranks = now (ranks .entry); sendings = now (sendings .entry); count = count }) (now (whole .entry)) j) frame period wet (serversOf (now (words .entry))) j (now (out .entry)) at (record { servers = serversOf (now (words .exit)); at = r }) (now (out .exit)) ⌝ }
 {
-    let s = server_at(words, j);
     if just_listens(places, ranks, sendings, whole, count, frame, period, j, s) {
         listen_at(words, j, frame);
         at
@@ -768,6 +820,48 @@ fn turn_at(
     }
 }
 
+// The turn of place j; where nothing happens to it, what it sent is cleared.
+fn turn_at(
+    words: &mut [u32; 80],
+    places: &[usize; 16],
+    ranks: &[u32; 16],
+    sendings: &[u32; 16],
+    whole: &[bool; 256],
+    heard: &[bool; 16],
+    count: usize,
+    frame: u32,
+    period: Period,
+    j: usize,
+    out: &mut [u8],
+    wet: bool,
+    at: usize,
+) -> usize
+    requires { ⌜ (length (now words) ≡ 80) × (Hearers (now places) (now whole) count (now heard) × ((j < 16) × Numbers (record { places = now places; ranks = now ranks; sendings = now sendings; count = count }))) ⌝ }
+    ensures { λ r. ⌜ (length (now (words .exit)) ≡ 80) × TurnsAt (inboxBy (record { places = now (places .entry); ranks = now (ranks .entry); sendings = now (sendings .entry); count = count }) (now (whole .entry)) j) frame period wet (serversOf (now (words .entry))) j (now (out .entry)) at (record { servers = serversOf (now (words .exit)); at = r }) (now (out .exit)) ⌝ }
+{
+    let s = server_at(words, j);
+    if heard[j] | ticks(s, period, frame) {
+        act_at(
+            words,
+            places,
+            ranks,
+            sendings,
+            whole,
+            count,
+            frame,
+            period,
+            j,
+            s,
+            out,
+            wet,
+            at,
+        )
+    } else {
+        clear_at(words, j);
+        at
+    }
+}
+
 // The heart of the frame: the first n servers, each after its turn.
 fn turns(
     words: &mut [u32; 80],
@@ -787,6 +881,7 @@ fn turns(
     ensures { λ r. ⌜ (length (now (words .exit)) ≡ 80) × Runs wet (stateOf before period (serversOf (now (words .entry))) (now (whole .entry))) (now (out .entry)) at (record { servers = serversOf (now (words .exit)); at = r }) (now (out .exit)) ⌝ }
 {
     let frame = before + 1;
+    let heard = hearers(places, whole, count);
     let mut r = at;
     let mut j: usize = 0;
     while j < n {
@@ -796,6 +891,7 @@ fn turns(
             ranks,
             sendings,
             whole,
+            &heard,
             count,
             frame,
             period,
@@ -945,47 +1041,6 @@ fn skipped(first: u32, frame: u32, target: u32) -> u32
     }
 }
 
-// ---- nothing at all
-
-fn any_sent(servers: [Server; 16]) -> bool
-    ensures { λ r. ⌜ r ≡ anySent servers ⌝ }
-{
-    let mut i: usize = 0;
-    while i < 16 {
-        let s = servers[i];
-        if s.sent_any() {
-            return true;
-        }
-        i += 1;
-    }
-    false
-}
-
-// No timer of any server is due after the present frame and before the answer.
-fn first_due(servers: [Server; 16], period: Period, frame: u32) -> u32
-    ensures { λ r. ⌜ AllRest frame period servers r ⌝ }
-{
-    let mut first: u32 = 4294967295;
-    let mut i: usize = 0;
-    while i < 16 {
-        let s = servers[i];
-        first = earlier(first, wakes(s, period, frame));
-        i += 1;
-    }
-    first
-}
-
-// Nothing happens up to the target, which is ahead.
-fn is_quiet(state: State, target: u32) -> bool
-    ensures { λ r. ⌜ (r ≡ Bool.true → QuietTo state target) ⌝ }
-{
-    let servers = state.servers;
-    let period = state.period;
-    let quiet = !any_sent(servers);
-    let first = first_due(servers, period, state.frame);
-    (state.frame < target) & (quiet & (target < first))
-}
-
 // ---- many frames
 
 // The frame reached, and the place after the lines that led there.
@@ -1010,7 +1065,6 @@ fn jump(words: &[u32; 80], period: Period, n: usize, loud: u32, frame: u32, targ
 // One frame after one in which somebody sent.
 fn heard_frame(
     words: &mut [u32; 80],
-    ranks: [u32; 16],
     whole: &[bool; 256],
     period: Period,
     n: usize,
@@ -1019,12 +1073,13 @@ fn heard_frame(
     wet: bool,
     at: usize,
 ) -> usize
-    requires { ⌜ (length (now words) ≡ 80) × ((before < 4294967295) × (Still n (serversOf (now words)) × Ranked ranks (serversOf (now words)))) ⌝ }
+    requires { ⌜ (length (now words) ≡ 80) × ((before < 4294967295) × Still n (serversOf (now words))) ⌝ }
     ensures { λ r. ⌜ (length (now (words .exit)) ≡ 80) × Runs wet (stateOf before period (serversOf (now (words .entry))) (now (whole .entry))) (now (out .entry)) at (record { servers = serversOf (now (words .exit)); at = r }) (now (out .exit)) ⌝ }
 {
     let mut places: [usize; 16] = [0; 16];
     let mut sendings: [u32; 16] = [0; 16];
     let count = list_senders(words, &mut places, &mut sendings, n);
+    let ranks = ranks_of(words);
     turns(
         words,
         &places,
@@ -1044,7 +1099,6 @@ fn heard_frame(
 // One frame.
 fn play_frame(
     words: &mut [u32; 80],
-    ranks: [u32; 16],
     whole: &[bool; 256],
     period: Period,
     n: usize,
@@ -1054,20 +1108,19 @@ fn play_frame(
     wet: bool,
     at: usize,
 ) -> usize
-    requires { ⌜ (length (now words) ≡ 80) × ((before < 4294967295) × ((Still n (serversOf (now words)) × Ranked ranks (serversOf (now words))) × Loud (serversOf (now words)) loud)) ⌝ }
+    requires { ⌜ (length (now words) ≡ 80) × ((before < 4294967295) × (Still n (serversOf (now words)) × Loud (serversOf (now words)) loud)) ⌝ }
     ensures { λ r. ⌜ (length (now (words .exit)) ≡ 80) × Runs wet (stateOf before period (serversOf (now (words .entry))) (now (whole .entry))) (now (out .entry)) at (record { servers = serversOf (now (words .exit)); at = r }) (now (out .exit)) ⌝ }
 {
     if loud == 0 {
         tick_all(words, period, n, before, out, wet, at)
     } else {
-        heard_frame(words, ranks, whole, period, n, before, out, wet, at)
+        heard_frame(words, whole, period, n, before, out, wet, at)
     }
 }
 
 // The next frame, unless the target is reached.
 fn play_next(
     words: &mut [u32; 80],
-    ranks: [u32; 16],
     whole: &[bool; 256],
     period: Period,
     n: usize,
@@ -1078,11 +1131,11 @@ fn play_next(
     wet: bool,
     at: usize,
 ) -> Reached
-    requires { ⌜ (length (now words) ≡ 80) × ((Still n (serversOf (now words)) × Ranked ranks (serversOf (now words))) × Loud (serversOf (now words)) loud) ⌝ }
+    requires { ⌜ (length (now words) ≡ 80) × (Still n (serversOf (now words)) × Loud (serversOf (now words)) loud) ⌝ }
     ensures { λ r. ⌜ (length (now (words .exit)) ≡ 80) × Steps wet (choose (ltb frame target) 1 0) (stateOf frame period (serversOf (now (words .entry))) (now (whole .entry))) (now (out .entry)) at (record { servers = serversOf (now (words .exit)); frame = r .frame; at = r .at }) (now (out .exit)) ⌝ }
 {
     if frame < target {
-        let after = play_frame(words, ranks, whole, period, n, loud, frame, out, wet, at);
+        let after = play_frame(words, whole, period, n, loud, frame, out, wet, at);
         Reached {
             frame: frame + 1,
             at: after,
@@ -1095,7 +1148,6 @@ fn play_next(
 // Some frames more, up to the target: those in which nothing happens are jumped over.
 fn step(
     words: &mut [u32; 80],
-    ranks: [u32; 16],
     whole: &[bool; 256],
     period: Period,
     n: usize,
@@ -1105,84 +1157,84 @@ fn step(
     wet: bool,
     at: usize,
 ) -> Reached
-    requires { ⌜ (length (now words) ≡ 80) × ((frame < target) × (Still n (serversOf (now words)) × Ranked ranks (serversOf (now words)))) ⌝ }
+    requires { ⌜ (length (now words) ≡ 80) × ((frame < target) × Still n (serversOf (now words))) ⌝ }
     ensures { λ r. ⌜ (length (now (words .exit)) ≡ 80) × Goes wet (stateOf frame period (serversOf (now (words .entry))) (now (whole .entry))) target (now (out .entry)) at (record { servers = serversOf (now (words .exit)); frame = r .frame; at = r .at }) (now (out .exit)) ⌝ }
 {
     let loud = loudest(words, n);
     let start = jump(words, period, n, loud, frame, target);
-    play_next(
-        words,
-        ranks,
-        whole,
-        period,
-        n,
-        loud,
-        start,
-        target,
-        out,
-        wet,
-        at,
-    )
+    play_next(words, whole, period, n, loud, start, target, out, wet, at)
+}
+
+// The servers in the frame reached, and the place after the lines that led there.
+struct Played {
+    words: [u32; 80],
+    frame: u32,
+    at: usize,
 }
 
 // All frames up to the target.
-fn play(state: State, target: u32, out: &mut [u8], wet: bool) -> Moved
-    ensures { λ r. ⌜ Moves wet (advancedBy (target - state .frame) state) (linesBy (target - state .frame) state) (now (out .entry)) 0 r (now (out .exit)) ⌝ }
+fn play(
+    words: [u32; 80],
+    whole: &[bool; 256],
+    period: Period,
+    frame: u32,
+    target: u32,
+    out: &mut [u8],
+    wet: bool,
+) -> Played
+    ensures { λ r. ⌜ Moves wet (stateOf frame period (serversOf words) (now (whole .entry))) target (now (out .entry)) r (now (out .exit)) ⌝ }
 {
-    let whole = state.whole;
-    let period = state.period;
-    let servers = state.servers;
-    let n = still_from(servers);
-    let ranks = ranks_of(servers);
-    let mut words = words_of(servers);
-    let mut frame = state.frame;
+    let mut next = words;
+    let n = still_from(&next);
+    let mut now = frame;
     let mut at: usize = 0;
-    while frame < target {
-        let m = step(
-            &mut words,
-            ranks,
-            &whole,
-            period,
-            n,
-            frame,
-            target,
-            out,
-            wet,
-            at,
-        );
-        frame = m.frame;
+    while now < target {
+        let m = step(&mut next, whole, period, n, now, target, out, wet, at);
+        now = m.frame;
         at = m.at;
     }
-    let after = servers_of(&words);
-    let state = state.moved(frame, after);
-    Moved { state, at }
+    Played {
+        words: next,
+        frame: now,
+        at,
+    }
 }
 
-// What an advance answers: where it is refused, nothing written and the same state.
+// What an advance answers: where it is refused, nothing written, the same frame and the same servers.
 pub struct Advance {
     pub verdict: Verdict,
     pub written: usize,
-    pub state: State,
+    pub frame: u32,
+    pub words: [u32; 80],
 }
 
-// To the target, or 9; where the target is not after the present frame, nothing happens.
-fn run_frames(state: State, target: u32, out: &mut [u8]) -> Advance
-    ensures { λ r. ⌜ Gives state (timeGoes state target) (now (out .entry)) (r .verdict) (r .written) (r .state) (now (out .exit)) ⌝ }
+// All frames up to the target, or 9; where the target is not after the present frame, nothing happens.
+pub fn run(
+    words: [u32; 80],
+    whole: &[bool; 256],
+    period: Period,
+    frame: u32,
+    target: u32,
+    out: &mut [u8],
+) -> Advance
+    ensures { λ r. ⌜ Advances (stateOf frame period (serversOf words) (now (whole .entry))) (timeGoes (stateOf frame period (serversOf words) (now (whole .entry))) target) (now (out .entry)) r (now (out .exit)) ⌝ }
 {
-    let counted = play(state, target, out, false);
+    let counted = play(words, whole, period, frame, target, out, false);
     if counted.at > out.len() {
         return Advance {
             verdict: Verdict::Refused(Refusal::Short),
             written: 0,
-            state,
+            frame,
+            words,
         };
     }
-    let played = play(state, target, out, true);
-    let next = played.state;
+    let played = play(words, whole, period, frame, target, out, true);
+    let next = played.words;
     Advance {
         verdict: Verdict::Accepted,
         written: played.at,
-        state: next,
+        frame: played.frame,
+        words: next,
     }
 }
 
@@ -1199,7 +1251,6 @@ fn most_bytes(loud: u32) -> usize
 // The place after the next frame's lines, which are not written.
 fn count_frame(
     words: &[u32; 80],
-    ranks: [u32; 16],
     whole: &[bool; 256],
     period: Period,
     n: usize,
@@ -1208,29 +1259,16 @@ fn count_frame(
     out: &mut [u8],
     at: usize,
 ) -> usize
-    requires { ⌜ (before < 4294967295) × ((Still n (serversOf (now words)) × Ranked ranks (serversOf (now words))) × Loud (serversOf (now words)) loud) ⌝ }
+    requires { ⌜ (length (now words) ≡ 80) × ((before < 4294967295) × (Still n (serversOf (now words)) × Loud (serversOf (now words)) loud)) ⌝ }
     ensures { λ r. ⌜ Out Bool.false (now (out .entry)) at (frameLines (stateOf before period (serversOf (now (words .entry))) (now (whole .entry)))) r (now (out .exit)) ⌝ }
 {
-    let servers = servers_of(words);
-    let mut copy = words_of(servers);
-    play_frame(
-        &mut copy,
-        ranks,
-        whole,
-        period,
-        n,
-        loud,
-        before,
-        out,
-        false,
-        at,
-    )
+    let mut copy = *words;
+    play_frame(&mut copy, whole, period, n, loud, before, out, false, at)
 }
 
 // Whether the next frame's lines fit. They are counted only where that is not clear.
 fn frame_fits(
     words: &[u32; 80],
-    ranks: [u32; 16],
     whole: &[bool; 256],
     period: Period,
     n: usize,
@@ -1239,13 +1277,13 @@ fn frame_fits(
     out: &mut [u8],
     at: usize,
 ) -> bool
-    requires { ⌜ (at ≤ length (now out)) × ((before < 4294967295) × ((Still n (serversOf (now words)) × Ranked ranks (serversOf (now words))) × Loud (serversOf (now words)) loud)) ⌝ }
+    requires { ⌜ (length (now words) ≡ 80) × ((at ≤ length (now out)) × ((before < 4294967295) × (Still n (serversOf (now words)) × Loud (serversOf (now words)) loud))) ⌝ }
     ensures { λ r. ⌜ (r ≡ leb (at + length (frameLines (stateOf before period (serversOf (now (words .entry))) (now (whole .entry))))) (length (now (out .entry)))) × (now (out .exit) ≡ now (out .entry)) ⌝ }
 {
     if most_bytes(loud) <= out.len() - at {
         return true;
     }
-    let after = count_frame(words, ranks, whole, period, n, loud, before, out, at);
+    let after = count_frame(words, whole, period, n, loud, before, out, at);
     after <= out.len()
 }
 
@@ -1259,7 +1297,6 @@ struct Stretched {
 // The next frame, if it fits.
 fn play_fitting(
     words: &mut [u32; 80],
-    ranks: [u32; 16],
     whole: &[bool; 256],
     period: Period,
     n: usize,
@@ -1268,11 +1305,11 @@ fn play_fitting(
     out: &mut [u8],
     at: usize,
 ) -> Stretched
-    requires { ⌜ (length (now words) ≡ 80) × ((at ≤ length (now out)) × ((frame < 4294967295) × ((Still n (serversOf (now words)) × Ranked ranks (serversOf (now words))) × Loud (serversOf (now words)) loud))) ⌝ }
+    requires { ⌜ (length (now words) ≡ 80) × ((at ≤ length (now out)) × ((frame < 4294967295) × (Still n (serversOf (now words)) × Loud (serversOf (now words)) loud))) ⌝ }
     ensures { λ r. ⌜ (length (now (words .exit)) ≡ 80) × Fares (stateOf frame period (serversOf (now (words .entry))) (now (whole .entry))) (now (out .entry)) at (serversOf (now (words .exit))) r (now (out .exit)) ⌝ }
 {
-    if frame_fits(words, ranks, whole, period, n, loud, frame, out, at) {
-        let after = play_frame(words, ranks, whole, period, n, loud, frame, out, true, at);
+    if frame_fits(words, whole, period, n, loud, frame, out, at) {
+        let after = play_frame(words, whole, period, n, loud, frame, out, true, at);
         Stretched {
             frame: frame + 1,
             at: after,
@@ -1287,25 +1324,24 @@ fn play_fitting(
     }
 }
 
-// Some frames more, up to the target, as long as they fit.
-fn stretch(
+// Some frames more, up to the target, as long as they fit: those in which nothing happens are jumped over.
+fn stretch_on(
     words: &mut [u32; 80],
-    ranks: [u32; 16],
     whole: &[bool; 256],
     period: Period,
     n: usize,
+    loud: u32,
     frame: u32,
     target: u32,
     out: &mut [u8],
     at: usize,
 ) -> Stretched
-    requires { ⌜ (length (now words) ≡ 80) × ((at ≤ length (now out)) × ((frame < target) × (Still n (serversOf (now words)) × Ranked ranks (serversOf (now words))))) ⌝ }
+    requires { ⌜ (length (now words) ≡ 80) × ((at ≤ length (now out)) × ((frame < target) × (Still n (serversOf (now words)) × Loud (serversOf (now words)) loud))) ⌝ }
     ensures { λ r. ⌜ (length (now (words .exit)) ≡ 80) × Stretches (stateOf frame period (serversOf (now (words .entry))) (now (whole .entry))) target (now (out .entry)) at (serversOf (now (words .exit))) r (now (out .exit)) ⌝ }
 {
-    let loud = loudest(words, n);
     let start = jump(words, period, n, loud, frame, target);
     if start < target {
-        play_fitting(words, ranks, whole, period, n, loud, start, out, at)
+        play_fitting(words, whole, period, n, loud, start, out, at)
     } else {
         Stretched {
             frame: start,
@@ -1315,83 +1351,274 @@ fn stretch(
     }
 }
 
-// As many frames towards the target as fit.
-fn play_within(state: State, target: u32, out: &mut [u8]) -> Moved
-    ensures { λ r. ⌜ MovesWithin state target (now (out .entry)) r (now (out .exit)) ⌝ }
+// ---- a calm group
+
+// The first of the first n places with a primary, or n.
+fn primary_among(words: &[u32; 80], n: usize) -> usize
+    requires { ⌜ n ≤ 16 ⌝ }
+    ensures { λ r. ⌜ (r < n → isPrimary (getD (serversOf (now (words .entry))) r absent .role) ≡ Bool.true) ⌝ }
 {
-    let whole = state.whole;
-    let period = state.period;
-    let servers = state.servers;
-    let n = still_from(servers);
-    let ranks = ranks_of(servers);
-    let mut words = words_of(servers);
-    let mut frame = state.frame;
+    let mut i: usize = 0;
+    while i < n {
+        let s = server_at(words, i);
+        let role = s.role;
+        if is_primary(role) {
+            return i;
+        }
+        i += 1;
+    }
+    i
+}
+
+// A timer is not due after the present frame and up to the frame `next`.
+fn sleeps(since: u32, limit: u32, frame: u32, next: u64) -> bool
+    ensures { λ r. ⌜ (r ≡ Bool.true → NotDue since limit frame (next + 1)) ⌝ }
+{
+    let at = (since as u64) + (limit as u64);
+    (at <= (frame as u64)) | (next < at)
+}
+
+// A server that does nothing until a verb, or a backup that hears and whose timer sleeps.
+fn waits(s: Server, link: bool, period: Period, frame: u32, next: u64) -> bool
+    ensures { λ r. ⌜ (r ≡ Bool.true → Waits period link frame next s) ⌝ }
+{
+    let role = s.role;
+    if is_backup(role) {
+        link & sleeps(s.silence, period.silence_limit(), frame, next)
+    } else {
+        is_still(s)
+    }
+}
+
+// So do all of the first n places but place b, which they hear.
+fn all_wait(
+    words: &[u32; 80],
+    whole: &[bool; 256],
+    period: Period,
+    n: usize,
+    b: usize,
+    frame: u32,
+    next: u64,
+) -> bool
+    requires { ⌜ (n ≤ 16) × (b < 16) ⌝ }
+    ensures { λ r. ⌜ (r ≡ Bool.true → AllWait (serversOf (now (words .entry))) (now (whole .entry)) period b frame next n) ⌝ }
+{
+    let mut i: usize = 0;
+    while i < n {
+        let s = server_at(words, i);
+        let wait = waits(s, whole[16 * b + i], period, frame, next);
+        if !wait & (i != b) {
+            return false;
+        }
+        i += 1;
+    }
+    true
+}
+
+// The frame of the next beat.
+fn next_beat(s: Server, period: Period) -> u64
+    ensures { λ r. ⌜ r ≡ s .beat + beatLimit period ⌝ }
+{
+    (s.beat as u64) + (period.beat_limit() as u64)
+}
+
+// The place of the primary that beats next, where nothing else happens before; else 16.
+fn calm(
+    words: &[u32; 80],
+    whole: &[bool; 256],
+    period: Period,
+    n: usize,
+    loud: u32,
+    frame: u32,
+) -> usize
+    requires { ⌜ Still n (serversOf (now words)) × Loud (serversOf (now words)) loud ⌝ }
+    ensures { λ r. ⌜ (r < 16 → Calm period (now (whole .entry)) (serversOf (now (words .entry))) r frame (getD (serversOf (now (words .entry))) r absent .beat + beatLimit period)) ⌝ }
+{
+    let b = primary_among(words, n);
+    if (loud != 0) | (n <= b) {
+        return 16;
+    }
+    let s = server_at(words, b);
+    let next = next_beat(s, period);
+    if (next <= (frame as u64)) | (period.beat_limit() < 2) {
+        return 16;
+    }
+    if all_wait(words, whole, period, n, b, frame, next) {
+        b
+    } else {
+        16
+    }
+}
+
+// The frame of the next beat, and the place after the lines of those before it.
+struct Pulse {
+    next: u64,
+    at: usize,
+}
+
+// The lines of beats before the target, as long as there is room for any line.
+fn beat_on(
+    identity: u16,
+    period: Period,
+    first: u64,
+    target: u32,
+    out: &mut [u8],
+    at: usize,
+) -> Pulse
+    requires { ⌜ (at ≤ length (now out)) × (first < 8589934592) ⌝ }
+    ensures { λ r. ⌜ Beats first (beatLimit period) target identity (now (out .entry)) at r (now (out .exit)) ⌝ }
+{
+    let mut next = first;
+    let mut r = at;
+    while (next < (target as u64)) & (out.len() - r >= 27) {
+        r = lines::say(out, true, r, next as u32, identity, Said::One(Word::Beat));
+        next += period.beat_limit() as u64;
+    }
+    Pulse { next, at: r }
+}
+
+// Place i after a beat of place b in the frame `last`, which was heard in the next.
+fn settle_at(words: &mut [u32; 80], i: usize, b: usize, last: u32)
+    requires { ⌜ (length (now words) ≡ 80) × ((i < 16) × (last < 4294967295)) ⌝ }
+    ensures { λ _. ⌜ (length (now (words .exit)) ≡ 80) × (serversOf (now (words .exit)) ≡ set (serversOf (now (words .entry))) i (pulsed b last i (getD (serversOf (now (words .entry))) i absent))) ⌝ }
+{
+    let s = server_at(words, i);
+    let role = s.role;
+    if i == b {
+        words[5 * i + 2] = last;
+    } else if is_backup(role) {
+        words[5 * i + 1] = last + 1;
+    }
+}
+
+// All of the first n places after it.
+fn settle(words: &mut [u32; 80], n: usize, b: usize, last: u32)
+    requires { ⌜ (length (now words) ≡ 80) × ((last < 4294967295) × (Still n (serversOf (now words)) × (b < n))) ⌝ }
+    ensures { λ _. ⌜ (length (now (words .exit)) ≡ 80) × (serversOf (now (words .exit)) ≡ mapFrom 0 (pulsed b last) (serversOf (now (words .entry)))) ⌝ }
+{
+    let mut i: usize = 0;
+    while i < n {
+        settle_at(words, i, b, last);
+        i += 1;
+    }
+}
+
+// Beats of place b, one a period, as long as they fit; or one step.
+fn beat_along(
+    words: &mut [u32; 80],
+    whole: &[bool; 256],
+    period: Period,
+    n: usize,
+    loud: u32,
+    b: usize,
+    frame: u32,
+    target: u32,
+    out: &mut [u8],
+    at: usize,
+) -> Stretched
+    requires { ⌜ (length (now words) ≡ 80) × ((at ≤ length (now out)) × ((frame < target) × ((Still n (serversOf (now words)) × Loud (serversOf (now words)) loud) × Calm period (now whole) (serversOf (now words)) b frame (getD (serversOf (now words)) b absent .beat + beatLimit period)))) ⌝ }
+    ensures { λ r. ⌜ (length (now (words .exit)) ≡ 80) × Stretches (stateOf frame period (serversOf (now (words .entry))) (now (whole .entry))) target (now (out .entry)) at (serversOf (now (words .exit))) r (now (out .exit)) ⌝ }
+{
+    let s = server_at(words, b);
+    let first = next_beat(s, period);
+    if (target as u64) < first {
+        return Stretched {
+            frame: target,
+            at,
+            full: false,
+        };
+    }
+    let m = beat_on(s.identity, period, first, target, out, at);
+    if m.next > first {
+        let last = (m.next - (period.beat_limit() as u64)) as u32;
+        settle(words, n, b, last);
+        Stretched {
+            frame: last + 1,
+            at: m.at,
+            full: false,
+        }
+    } else {
+        stretch_on(words, whole, period, n, loud, frame, target, out, at)
+    }
+}
+
+// Some frames more, up to the target, as long as they fit.
+fn stretch(
+    words: &mut [u32; 80],
+    whole: &[bool; 256],
+    period: Period,
+    n: usize,
+    frame: u32,
+    target: u32,
+    out: &mut [u8],
+    at: usize,
+) -> Stretched
+    requires { ⌜ (length (now words) ≡ 80) × ((at ≤ length (now out)) × ((frame < target) × Still n (serversOf (now words)))) ⌝ }
+    ensures { λ r. ⌜ (length (now (words .exit)) ≡ 80) × Stretches (stateOf frame period (serversOf (now (words .entry))) (now (whole .entry))) target (now (out .entry)) at (serversOf (now (words .exit))) r (now (out .exit)) ⌝ }
+{
+    let loud = loudest(words, n);
+    let b = calm(words, whole, period, n, loud, frame);
+    if b < 16 {
+        beat_along(words, whole, period, n, loud, b, frame, target, out, at)
+    } else {
+        stretch_on(words, whole, period, n, loud, frame, target, out, at)
+    }
+}
+
+// As many frames towards the target as fit.
+fn play_within(
+    words: [u32; 80],
+    whole: &[bool; 256],
+    period: Period,
+    frame: u32,
+    target: u32,
+    out: &mut [u8],
+) -> Played
+    ensures { λ r. ⌜ MovesWithin (stateOf frame period (serversOf words) (now (whole .entry))) target (now (out .entry)) r (now (out .exit)) ⌝ }
+{
+    let mut next = words;
+    let n = still_from(&next);
+    let mut now = frame;
     let mut at: usize = 0;
     let mut full = false;
-    while (frame < target) & !full {
-        let m = stretch(&mut words, ranks, &whole, period, n, frame, target, out, at);
-        frame = m.frame;
+    while (now < target) & !full {
+        let m = stretch(&mut next, whole, period, n, now, target, out, at);
+        now = m.frame;
         at = m.at;
         full = m.full;
     }
-    let after = servers_of(&words);
-    let state = state.moved(frame, after);
-    Moved { state, at }
-}
-
-// As many single advances towards the target as fit, or 9.
-fn run_fitting(state: State, target: u32, out: &mut [u8]) -> Advance
-    ensures { λ r. ⌜ Gives state (withinGoes state target (length (now (out .entry)))) (now (out .entry)) (r .verdict) (r .written) (r .state) (now (out .exit)) ⌝ }
-{
-    let played = play_within(state, target, out);
-    let next = played.state;
-    if (state.frame < target) & (next.frame == state.frame) {
-        return Advance {
-            verdict: Verdict::Refused(Refusal::Short),
-            written: 0,
-            state,
-        };
-    }
-    Advance {
-        verdict: Verdict::Accepted,
-        written: played.at,
-        state: next,
-    }
-}
-
-// ---- advances
-
-// Another frame, and nothing else.
-fn hop(state: State, target: u32) -> Advance
-    ensures { λ r. ⌜ r ≡ record { verdict = Verdict.Accepted; written = 0; state = movedTo state target (state .servers) } ⌝ }
-{
-    let mut next = state;
-    next.frame = target;
-    Advance {
-        verdict: Verdict::Accepted,
-        written: 0,
-        state: next,
-    }
-}
-
-// All frames up to the target, or 9.
-pub fn run(state: State, target: u32, out: &mut [u8]) -> Advance
-    ensures { λ r. ⌜ Gives state (timeGoes state target) (now (out .entry)) (r .verdict) (r .written) (r .state) (now (out .exit)) ⌝ }
-{
-    if is_quiet(state, target) {
-        hop(state, target)
-    } else {
-        run_frames(state, target, out)
+    Played {
+        words: next,
+        frame: now,
+        at,
     }
 }
 
 // As many single advances towards the target as fit; 9 where there are some to make and not one fits.
-pub fn run_within(state: State, target: u32, out: &mut [u8]) -> Advance
-    ensures { λ r. ⌜ Gives state (withinGoes state target (length (now (out .entry)))) (now (out .entry)) (r .verdict) (r .written) (r .state) (now (out .exit)) ⌝ }
+pub fn run_within(
+    words: [u32; 80],
+    whole: &[bool; 256],
+    period: Period,
+    frame: u32,
+    target: u32,
+    out: &mut [u8],
+) -> Advance
+    ensures { λ r. ⌜ Advances (stateOf frame period (serversOf words) (now (whole .entry))) (withinGoes (stateOf frame period (serversOf words) (now (whole .entry))) target (length (now (out .entry)))) (now (out .entry)) r (now (out .exit)) ⌝ }
 {
-    if is_quiet(state, target) {
-        hop(state, target)
-    } else {
-        run_fitting(state, target, out)
+    let played = play_within(words, whole, period, frame, target, out);
+    if (frame < target) & (played.frame == frame) {
+        return Advance {
+            verdict: Verdict::Refused(Refusal::Short),
+            written: 0,
+            frame,
+            words,
+        };
+    }
+    let next = played.words;
+    Advance {
+        verdict: Verdict::Accepted,
+        written: played.at,
+        frame: played.frame,
+        words: next,
     }
 }

@@ -35,7 +35,7 @@ use Rattle.group.specs.Frame.{heardAll, hearing, turned, advanced, frame
 use Rattle.group.specs.Verbs.{placeOf, happens, linksAfter, did}
 use Rattle.group.specs.Advance.{stepOutcome, advancedBy, linesBy, timeRefusal, fitting, framesWithin, withinOutcome}
 use Rattle.group.specs.Calls.{Call, verb, advance, advanceTo, outcomeOf, sliceOf, callNumber, callChannel, callSlice, channelAfter, numbersOf}
-use Rattle.group.specs.Laws.{callLines, RefusedChangesNothing, AcceptedWritesItsLines, KeepsItsTable, EveryCallKeepsTheTable, frameThen, FramesCounted, OthersStay, OtherLinksStay, NothingSentNothingHeard, ListsJoin, linesAfter, AsManyAdvances, AreAdvances, WithinIsAdvances, Laws}
+use Rattle.group.specs.Laws.{callLines, RefusedChangesNothing, AcceptedWritesItsLines, KeepsItsTable, EveryCallKeepsTheTable, frameThen, FramesCounted, OthersStay, OtherLinksStay, NothingSentNothingHeard, ListsJoin, linesAfter, AsManyAdvances, AreAdvances, WithinIsAdvances, OneMoreDoesNotFit, Laws}
 use Rattle.group.proofs.Answering.{is-long}
 use Rattle.group.proofs.Places.{frame-after}
 use Rattle.group.proofs.Made.{tables-in-order}
@@ -195,7 +195,7 @@ keeps-advanced c =
       ranks = rank-mapped (turned c (c .frame + 1)) (rank-turned c (c .frame + 1)) 0 (c .servers);
     }
 
-keeps-by : (n : ℕ) (c : State) → KeepsItsTable c (advancedBy n c)
+pub keeps-by : (n : ℕ) (c : State) → KeepsItsTable c (advancedBy n c)
 unfolding advancedBy
 keeps-by zero c = record { period = refl; places = refl; ranks = λ i. refl }
 keeps-by (suc n) c =
@@ -331,6 +331,23 @@ within-is-advances c t d e =
     let b = fit-bounds (t - c .frame) c (length d) in
     (b .0, (b .1, frames d (framesWithin c t (length d)) c (omega (arith, s .0, s .1, b .0)) (b .1)))
 
+one-more : (n : ℕ) (c : State) (room : ℕ) → fitting n c room < n → room < length (linesBy (suc (fitting n c room)) c)
+unfolding fitting linesBy
+one-more zero c room h = absurd (omega arith)
+one-more (suc n) c room h =
+    on (less room (length (frameLines c)))
+    (λ g. rw (lt-leb (length (frameLines c)) room g, fitting) (omega (arith, length-append (frameLines c) [])))
+    (λ g.
+    let a = length (frameLines c) in
+    let k = fitting n (advanced c) (room - a) in
+    let is : fitting (suc n) c room ≡ suc k = rw (le-leb (length (frameLines c)) room g, fitting) refl in
+    let more = one-more n (advanced c) (room - a) (omega (arith, h, is)) in
+    let e = length-append (frameLines c) (linesBy (suc k) (advanced c)) in
+    rw is (omega (arith, e, more)))
+
+pub one-more-does-not-fit : OneMoreDoesNotFit
+one-more-does-not-fit c t room h = one-more (t - c .frame) c room h
+
 -- ---- all of them
 
 pub laws : Laws
@@ -348,4 +365,5 @@ laws =
       joined = lists-join;
       advances = as-many-advances;
       within = within-is-advances;
+      most = one-more-does-not-fit;
     }

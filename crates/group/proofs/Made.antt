@@ -145,7 +145,7 @@ pub neat-empty : Neat empty
 unfolding New
 neat-empty = record { long = length-replicate most absent; new = every-empty most (inl refl); rising = rising-empty most }
 
-length-enter : (n : Server) (l : List Server) → length (enter n l) ≡ length l
+pub length-enter : (n : Server) (l : List Server) → length (enter n l) ≡ length l
 unfolding enter
 length-enter n [] = refl
 length-enter n (s ∷ l) = ap suc (length-enter (choose (standsBefore n s) s n) l)

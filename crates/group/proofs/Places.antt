@@ -12,14 +12,14 @@ use Rattle.group.specs.Frame.{turned, advanced}
 use Rattle.group.specs.Advance.{advancedBy}
 
 -- an element of a mapped list
-map-at : {A : Type 0} (f : ℕ → A → A) (k : ℕ) (l : List A) (i : ℕ) (d : A) → i < length l → getD (mapFrom k f l) i d ≡ f (k + i) (getD l i d)
+pub map-at : {A : Type 0} (f : ℕ → A → A) (k : ℕ) (l : List A) (i : ℕ) (d : A) → i < length l → getD (mapFrom k f l) i d ≡ f (k + i) (getD l i d)
 map-at f k [] i d h = absurd (omega arith)
 map-at f k (x ∷ l) zero d h = ap (λ (n : ℕ). f n x) (let e : k ≡ k + 0 = omega arith in e)
 map-at f k (x ∷ l) (suc i) d h =
     map-at f (suc k) l i d (omega arith) ∙ ap (λ (n : ℕ). f n (getD l i d)) (let e : suc k + i ≡ k + suc i = omega arith in e)
 
 -- and its length
-length-from : {A : Type 0} (f : ℕ → A → A) (k : ℕ) (l : List A) → length (mapFrom k f l) ≡ length l
+pub length-from : {A : Type 0} (f : ℕ → A → A) (k : ℕ) (l : List A) → length (mapFrom k f l) ≡ length l
 length-from f k [] = refl
 length-from f k (x ∷ l) = ap suc (length-from f (suc k) l)
 

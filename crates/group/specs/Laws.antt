@@ -4,7 +4,7 @@ use mathlib.Core.Bool.{true, false}
 use mathlib.Core.Path.{_≡_}
 use mathlib.Core.Logic.{_≢_}
 use mathlib.Core.List.{List, [], _∷_, _++_, List·Memᴰ}
-use Prim.Native.Nat.{ℕ, _+_, _-_, _≤_, _<_}
+use Prim.Native.Nat.{ℕ, suc, _+_, _-_, _≤_, _<_}
 use lib.Dec.{eqb}
 use lib.ListN.{length, drop, replicate, getD}
 use Rattle.lists.specs.Choice.{choose}
@@ -161,6 +161,10 @@ WithinIsAdvances =
     (c : State) (t : ℕ) (d : List ℕ) → withinOutcome c t (length d) .number ≡ 0 →
     (framesWithin c t (length d) ≤ t - c .frame) × ((length (withinOutcome c t (length d) .lines) ≤ length d) × AreAdvances c (framesWithin c t (length d)) d)
 
+-- and they are as many as fit: the lines of one frame more would not
+abbrev pub OneMoreDoesNotFit : Type 0
+OneMoreDoesNotFit = (c : State) (t room : ℕ) → framesWithin c t room < t - c .frame → room < length (linesBy (suc (framesWithin c t room)) c)
+
 -- ---- all of them
 
 pub record Laws : Type 0 where
@@ -176,3 +180,4 @@ pub record Laws : Type 0 where
   pub joined : ListsJoin
   pub advances : AsManyAdvances
   pub within : WithinIsAdvances
+  pub most : OneMoreDoesNotFit

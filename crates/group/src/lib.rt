@@ -11,7 +11,6 @@ ghost use lib.ListN.{replicate};
 ghost use Rattle.lists.specs.Choice.{choose};
 ghost use Rattle.server.specs.Period.{beatLimit};
 ghost use Rattle.group.specs.Table.{empty, isEmpty, counted, placeIn, standsBefore, enter};
-ghost use Rattle.group.specs.Frame.{movedTo};
 ghost use Rattle.group.specs.Answers.{Adds, noChannel, Opens};
 
 // The servers of a channel in rising identity; empty places, of identity 0, come last. Made by `empty` and `add`.
@@ -42,7 +41,7 @@ pub struct Opened {
 // ---- the table
 
 // The place of an identity, or 16; for 0 the first empty place, if there is one.
-pub fn place_in(servers: [Server; 16], identity: u16) -> usize
+fn place_in(servers: [Server; 16], identity: u16) -> usize
     ensures { λ r. ⌜ r ≡ placeIn servers identity ⌝ }
 {
     let mut i = 0;
@@ -216,15 +215,5 @@ impl State {
             PeriodAnswer::Is(p) => open_with(table, p),
             PeriodAnswer::Refused(k) => unopened(k),
         }
-    }
-
-    // In another frame, with these servers.
-    pub fn moved(self, frame: u32, servers: [Server; 16]) -> State
-        ensures { λ r. ⌜ r ≡ movedTo self frame servers ⌝ }
-    {
-        let mut next = self;
-        next.frame = frame;
-        next.servers = servers;
-        next
     }
 }

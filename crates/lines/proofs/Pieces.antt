@@ -18,11 +18,7 @@ use Rattle.lines.specs.Lines.{line, refusedWord}
 pub few : {r : ℕ} (n : ℕ) → r ≡ length (digits n) → n < 2 ^ 16 → r ≤ 20
 few n e h = omega (arith, digits-few 19 n (omega arith))
 
--- the pieces of a line, and its length
-pub line-pieces : (t i : ℕ) (w : List ℕ) → ((((label t ++ bytes "\t") ++ digits i) ++ bytes "\t") ++ w) ++ bytes "\n" ≡ line t i w
-unfolding line
-line-pieces t i w = simp append-assoc refl
-
+-- how long a line is
 pub line-long : (t i : ℕ) (w : List ℕ) → length (line t i w) ≡ length (digits i) + length w + 14
 unfolding line label
 line-long t i w = simp length-append (omega arith)

@@ -20,6 +20,10 @@ use Rattle.server.specs.Words.{wordBytes}
 unfoldable pub line : ℕ → ℕ → List ℕ → List ℕ
 line t i w = label t ++ (bytes "\t" ++ (digits i ++ (bytes "\t" ++ (w ++ bytes "\n"))))
 
+-- what stands after the identity
+abbrev pub lineEnd : List ℕ → List ℕ
+lineEnd w = bytes "\t" ++ (w ++ bytes "\n")
+
 -- the lines of what happened to server i in frame t
 unfoldable pub linesOf : ℕ → ℕ → Said → List ℕ
 linesOf t i says.Nothing = []

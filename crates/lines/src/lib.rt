@@ -5,16 +5,16 @@ use server::Word;
 use text::Written;
 use timecode::Timecode;
 ghost use mathlib.Core.Path.{_≡_};
-ghost use mathlib.Core.List.{_++_};
-ghost use Prim.Native.Nat.{_+_, _≤_};
+ghost use mathlib.Core.Bool.{true};
+ghost use mathlib.Core.List.{[], _∷_, _++_};
+ghost use Prim.Native.Nat.{_+_, _^_, _≤_, _<_};
 ghost use lib.ListN.{length};
 ghost use Rattle.lists.specs.Choice.{choose};
-ghost use Rattle.lists.specs.Splice.{splice};
-ghost use Rattle.text.specs.Digits.{digits};
-ghost use Rattle.text.specs.Write.{Writes, WritesOn};
+ghost use Rattle.text.specs.Digits.{lastDigit, digits};
+ghost use Rattle.text.specs.Write.{roomFor, Writes};
 ghost use Rattle.text.specs.Steps.{Pieces};
 ghost use Rattle.server.specs.Words.{wordBytes};
-ghost use Rattle.lines.specs.Lines.{line, linesOf, refusedWord, refusedLine, Says};
+ghost use Rattle.lines.specs.Lines.{lineEnd, line, linesOf, refusedWord, refusedLine, Says};
 
 fn word_length(word: Word) -> usize
     ensures { λ r. ⌜ r ≡ length (wordBytes word) ⌝ }
@@ -51,61 +51,159 @@ fn said_length(frame: u32, identity: u16, said: Said) -> usize
     }
 }
 
-// A word after what was written.
-fn then_word(before: Written, out: &mut [u8], word: Word) -> Written
-    ensures { λ r. ⌜ WritesOn (now (out .entry)) before (wordBytes word) r (now (out .exit)) ⌝ }
+// ---- the pieces of a line, where they fit: nothing is tested again
+
+// Bytes. Where their number is fixed, the compiler sees that they fit this part of the slice.
+fn put_bytes(out: &mut [u8], at: usize, bytes: &[u8]) -> usize
+    requires { ⌜ at + length (now bytes) ≤ length (now out) ⌝ }
+    ensures { λ r. ⌜ Writes (now (out .entry)) at (now (bytes .entry)) (Written.To r) (now (out .exit)) ⌝ }
 {
-    match before {
-        Written::To(at) => server::write_word(out, at, word),
-        Written::Refused(k) => Written::Refused(k),
+    let end = at + bytes.len();
+    text::write_bytes(&mut out[at..end], 0, bytes);
+    end
+}
+
+// The last digit of n.
+fn put_last(out: &mut [u8], at: usize, n: u16) -> usize
+    requires { ⌜ at < length (now out) ⌝ }
+    ensures { λ r. ⌜ Writes (now (out .entry)) at (lastDigit n ∷ []) (Written.To r) (now (out .exit)) ⌝ }
+{
+    out[at] = b'0' + (n % 10) as u8;
+    at + 1
+}
+
+// The digits of n, at most two, three, four and five of them: `text` has the recursion that these unfold.
+fn put_two_digits(out: &mut [u8], at: usize, n: u16) -> usize
+    requires { ⌜ (n < 100) × (at + length (digits n) ≤ length (now out)) ⌝ }
+    ensures { λ r. ⌜ Writes (now (out .entry)) at (digits n) (Written.To r) (now (out .exit)) ⌝ }
+{
+    if n < 10 {
+        put_last(out, at, n)
+    } else {
+        let last = put_last(out, at, n / 10);
+        put_last(out, last, n)
     }
 }
 
-// The pieces of a line, where they fit.
-fn put_line(out: &mut [u8], at: usize, frame: u32, identity: u16, word: Word) -> Written
-    ensures { λ r. ⌜ Pieces (now (out .entry)) at (line frame identity (wordBytes word)) r (now (out .exit)) ⌝ }
+fn put_three_digits(out: &mut [u8], at: usize, n: u16) -> usize
+    requires { ⌜ (n < 1000) × (at + length (digits n) ≤ length (now out)) ⌝ }
+    ensures { λ r. ⌜ Writes (now (out .entry)) at (digits n) (Written.To r) (now (out .exit)) ⌝ }
+{
+    if n < 10 {
+        put_last(out, at, n)
+    } else {
+        let last = put_two_digits(out, at, n / 10);
+        put_last(out, last, n)
+    }
+}
+
+fn put_four_digits(out: &mut [u8], at: usize, n: u16) -> usize
+    requires { ⌜ (n < 10000) × (at + length (digits n) ≤ length (now out)) ⌝ }
+    ensures { λ r. ⌜ Writes (now (out .entry)) at (digits n) (Written.To r) (now (out .exit)) ⌝ }
+{
+    if n < 10 {
+        put_last(out, at, n)
+    } else {
+        let last = put_three_digits(out, at, n / 10);
+        put_last(out, last, n)
+    }
+}
+
+fn put_digits(out: &mut [u8], at: usize, n: u16) -> usize
+    requires { ⌜ at + length (digits n) ≤ length (now out) ⌝ }
+    ensures { λ r. ⌜ Writes (now (out .entry)) at (digits n) (Written.To r) (now (out .exit)) ⌝ }
+{
+    if n < 10 {
+        put_last(out, at, n)
+    } else {
+        let last = put_four_digits(out, at, n / 10);
+        put_last(out, last, n)
+    }
+}
+
+// The tab, the word and the line feed.
+fn put_end(out: &mut [u8], at: usize, word: Word) -> usize
+    requires { ⌜ at + length (lineEnd (wordBytes word)) ≤ length (now out) ⌝ }
+    ensures { λ r. ⌜ Writes (now (out .entry)) at (lineEnd (wordBytes word)) (Written.To r) (now (out .exit)) ⌝ }
+{
+    match word {
+        Word::Sync => put_bytes(out, at, b"\tsync\n"),
+        Word::Backup => put_bytes(out, at, b"\tbackup\n"),
+        Word::Prospect => put_bytes(out, at, b"\tprospect\n"),
+        Word::Primary => put_bytes(out, at, b"\tprimary\n"),
+        Word::Idle => put_bytes(out, at, b"\tidle\n"),
+        Word::Down => put_bytes(out, at, b"\tdown\n"),
+        Word::Beat => put_bytes(out, at, b"\tbeat\n"),
+        Word::Reveal => put_bytes(out, at, b"\treveal\n"),
+        Word::Pass => put_bytes(out, at, b"\tpass\n"),
+        Word::Lower => put_bytes(out, at, b"\tlower\n"),
+        Word::Cut => put_bytes(out, at, b"\tcut\n"),
+        Word::Mended => put_bytes(out, at, b"\tmended\n"),
+    }
+}
+
+fn put_line(out: &mut [u8], at: usize, frame: u32, identity: u16, word: Word) -> usize
+    requires { ⌜ at + length (line frame identity (wordBytes word)) ≤ length (now out) ⌝ }
+    ensures { λ r. ⌜ Writes (now (out .entry)) at (line frame identity (wordBytes word)) (Written.To r) (now (out .exit)) ⌝ }
 {
     let time = Timecode { frame };
     let label = time.label();
-    let a = text::write_bytes(out, at, &label);
-    let b = a.then_bytes(out, b"\t");
-    let c = b.then_number(out, identity as u64);
-    let d = c.then_bytes(out, b"\t");
-    let e = then_word(d, out, word);
-    e.then_bytes(out, b"\n")
+    let a = put_bytes(out, at, &label);
+    let b = put_bytes(out, a, b"\t");
+    let c = put_digits(out, b, identity);
+    put_end(out, c, word)
 }
 
-// Two lines, where they fit.
-fn put_two(out: &mut [u8], at: usize, frame: u32, identity: u16, v: Word, w: Word)
+fn put_two(out: &mut [u8], at: usize, frame: u32, identity: u16, v: Word, w: Word) -> usize
     requires { ⌜ at + length (line frame identity (wordBytes v) ++ line frame identity (wordBytes w)) ≤ length (now out) ⌝ }
-    ensures { λ _. ⌜ now (out .exit) ≡ splice (now (out .entry)) at (line frame identity (wordBytes v) ++ line frame identity (wordBytes w)) ⌝ }
+    ensures { λ r. ⌜ Writes (now (out .entry)) at (line frame identity (wordBytes v) ++ line frame identity (wordBytes w)) (Written.To r) (now (out .exit)) ⌝ }
 {
-    put_line(out, at, frame, identity, v);
-    let next = at + line_length(frame, identity, v);
-    put_line(out, next, frame, identity, w);
+    let next = put_line(out, at, frame, identity, v);
+    put_line(out, next, frame, identity, w)
 }
 
-// The lines, where they fit.
-fn put(out: &mut [u8], at: usize, frame: u32, identity: u16, said: Said)
-    requires { ⌜ at + length (linesOf frame identity said) ≤ length (now out) ⌝ }
-    ensures { λ _. ⌜ now (out .exit) ≡ splice (now (out .entry)) at (linesOf frame identity said) ⌝ }
+// ---- the lines about a server
+
+// The place after n bytes in a slice that has `end` of them; one past the end where they do not fit.
+fn place(end: usize, at: usize, n: usize) -> usize
+    requires { ⌜ end + 1 < 2 ^ 64 ⌝ }
+    ensures { λ r. ⌜ r ≡ choose (roomFor end at n) (at + n) (end + 1) ⌝ }
 {
-    match said {
-        Said::Nothing => {}
-        Said::One(w) => {
-            put_line(out, at, frame, identity, w);
-        }
-        Said::Two(v, w) => put_two(out, at, frame, identity, v, w),
+    if text::fits(end, at, n) {
+        at + n
+    } else {
+        end + 1
     }
 }
 
-// The lines where they fit, if they are to be written.
-fn put_if(wet: bool, out: &mut [u8], at: usize, frame: u32, identity: u16, said: Said)
-    requires { ⌜ at + length (linesOf frame identity said) ≤ length (now out) ⌝ }
-    ensures { λ _. ⌜ now (out .exit) ≡ choose wet (splice (now (out .entry)) at (linesOf frame identity said)) (now (out .entry)) ⌝ }
+fn write_one(out: &mut [u8], at: usize, frame: u32, identity: u16, w: Word) -> usize
+    ensures { λ r. ⌜ Says true (now (out .entry)) at (line frame identity (wordBytes w)) r (now (out .exit)) ⌝ }
 {
-    if wet {
-        put(out, at, frame, identity, said);
+    if text::fits(out.len(), at, line_length(frame, identity, w)) {
+        put_line(out, at, frame, identity, w)
+    } else {
+        out.len() + 1
+    }
+}
+
+fn write_two(out: &mut [u8], at: usize, frame: u32, identity: u16, v: Word, w: Word) -> usize
+    ensures { λ r. ⌜ Says true (now (out .entry)) at (line frame identity (wordBytes v) ++ line frame identity (wordBytes w)) r (now (out .exit)) ⌝ }
+{
+    let n = line_length(frame, identity, v) + line_length(frame, identity, w);
+    if text::fits(out.len(), at, n) {
+        put_two(out, at, frame, identity, v, w)
+    } else {
+        out.len() + 1
+    }
+}
+
+fn write(out: &mut [u8], at: usize, frame: u32, identity: u16, said: Said) -> usize
+    ensures { λ r. ⌜ Says true (now (out .entry)) at (linesOf frame identity said) r (now (out .exit)) ⌝ }
+{
+    match said {
+        Said::Nothing => place(out.len(), at, 0),
+        Said::One(w) => write_one(out, at, frame, identity, w),
+        Said::Two(v, w) => write_two(out, at, frame, identity, v, w),
     }
 }
 
@@ -114,12 +212,10 @@ fn put_if(wet: bool, out: &mut [u8], at: usize, frame: u32, identity: u16, said:
 pub fn say(out: &mut [u8], wet: bool, at: usize, frame: u32, identity: u16, said: Said) -> usize
     ensures { λ r. ⌜ Says wet (now (out .entry)) at (linesOf frame identity said) r (now (out .exit)) ⌝ }
 {
-    let n = said_length(frame, identity, said);
-    if text::fits(out.len(), at, n) {
-        put_if(wet, out, at, frame, identity, said);
-        at + n
+    if wet {
+        write(out, at, frame, identity, said)
     } else {
-        out.len() + 1
+        place(out.len(), at, said_length(frame, identity, said))
     }
 }
 

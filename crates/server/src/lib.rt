@@ -3,18 +3,16 @@ use heartbeat::Heartbeat;
 use heartbeat::Rank;
 use refusal::Refusal;
 use refusal::Verdict;
-use text::Written;
 ghost use mathlib.Core.Path.{_≡_};
 ghost use Prim.Native.Nat.{_<_, _≤_};
 ghost use Rattle.lists.specs.Choice.{choose};
 ghost use Rattle.refusal.specs.Answer.{numberOf};
-ghost use Rattle.text.specs.Write.{Writes};
 ghost use Rattle.server.specs.Period.{ofPeriod, takePeriod, shortest, beatLimit, silenceLimit, prospectLimit};
 ghost use Rattle.server.specs.Server.{absent, idle, Makes, rankOf, inRole, oneMore, sendBeat, toProspect, cleared, plainOf, revealOf, passOf, sentAny, after};
 ghost use Rattle.server.specs.Hearing.{fromHigher, fromLower, forThis, backupHears, prospectHears, primaryHears, hears, attending, heard};
 ghost use Rattle.server.specs.Timers.{silent, beating, rising, timed};
 ghost use Rattle.server.specs.Verbs.{roleNumber, verbNumber, cell, ofCell, enters, entering, verbEvent, paired, verbAnswer, refusing, Acts};
-ghost use Rattle.server.specs.Words.{wordBytes, said};
+ghost use Rattle.server.specs.Words.{said};
 
 // What a server is to its group.
 pub enum Role {
@@ -758,25 +756,5 @@ impl Event {
             Event::ToDown => Said::One(Word::Down),
             Event::Passed(_) => Said::Two(Word::Pass, Word::Backup),
         }
-    }
-}
-
-// The bytes of a word into the slice, or 9 and no byte changed.
-pub fn write_word(out: &mut [u8], at: usize, word: Word) -> Written
-    ensures { λ r. ⌜ Writes (now (out .entry)) at (wordBytes word) r (now (out .exit)) ⌝ }
-{
-    match word {
-        Word::Sync => text::write_bytes(out, at, b"sync"),
-        Word::Backup => text::write_bytes(out, at, b"backup"),
-        Word::Prospect => text::write_bytes(out, at, b"prospect"),
-        Word::Primary => text::write_bytes(out, at, b"primary"),
-        Word::Idle => text::write_bytes(out, at, b"idle"),
-        Word::Down => text::write_bytes(out, at, b"down"),
-        Word::Beat => text::write_bytes(out, at, b"beat"),
-        Word::Reveal => text::write_bytes(out, at, b"reveal"),
-        Word::Pass => text::write_bytes(out, at, b"pass"),
-        Word::Lower => text::write_bytes(out, at, b"lower"),
-        Word::Cut => text::write_bytes(out, at, b"cut"),
-        Word::Mended => text::write_bytes(out, at, b"mended"),
     }
 }

@@ -2,7 +2,7 @@
 use mathlib.Core.Bool.{true}
 use mathlib.Core.List.{List, [], _∷_}
 use mathlib.Core.Path.{_≡_, sym, ap, _∙_}
-use Prim.Native.Nat.{ℕ, zero, suc, _+_, _*_, _/_, _%_, _<_}
+use Prim.Native.Nat.{ℕ, zero, suc, _+_, _-_, _*_, _/_, _%_, _<_}
 use native.Mathlib.Omega.{arith}
 use borrow.Author.Tests.{eqb-true}
 use lib.ListN.{length, getD, drop}
@@ -10,7 +10,7 @@ use lib.Seq.{drop-cons, drop-length}
 use Rattle.lists.proofs.Cases.{and-true}
 use Rattle.timecode.specs.Label.{dayLength, label}
 use Rattle.timecode.specs.Read.{twoAt, twoBelow, isLabel, frameOf}
-use Rattle.timecode.specs.Steps.{IsLabel}
+use Rattle.timecode.specs.Steps.{Pair, IsLabel}
 use Rattle.timecode.proofs.Digits.{parts, below, tens-back, ones-back, two-reads, two-passes}
 
 -- the test, taken apart
@@ -49,6 +49,13 @@ module _ (t : ℕ) (h : t < dayLength) where
       )
       (omega arith)
 
+-- the last two digits
+last-tens : (n : ℕ) → n % 100 / 10 % 10 ≡ n / 10 % 10
+last-tens n = omega arith
+
+last-ones : (n : ℕ) → n % 100 % 10 ≡ n % 10
+last-ones n = omega arith
+
 -- hours, minutes, seconds and frames of the frame that they name
 module _ (a b c d : ℕ) (hb : b < 60) (hc : c < 60) (hd : d < 25) where
   hours-back : (((a * 60 + b) * 60 + c) * 25 + d) / 90000 ≡ a
@@ -62,6 +69,20 @@ module _ (a b c d : ℕ) (hb : b < 60) (hc : c < 60) (hd : d < 25) where
 
   frames-back : (((a * 60 + b) * 60 + c) * 25 + d) % 25 ≡ d
   frames-back = omega arith
+
+-- the bytes of the four pairs of a frame are its label
+module _ (t : ℕ) where
+  pub label-pairs :
+      {h m s f : ℕ} → Pair (t / 25 / 60 / 60 % 100) h → Pair (t / 25 / 60 - t / 25 / 60 / 60 * 60) m → Pair (t / 25 - t / 25 / 60 * 60) s →
+      Pair (t - t / 25 * 25) f →
+      (h % 256) ∷ (h / 256) ∷ 58 ∷ (m % 256) ∷ (m / 256) ∷ 58 ∷ (s % 256) ∷ (s / 256) ∷ 58 ∷ (f % 256) ∷ (f / 256) ∷ [] ≡ label t
+  unfolding label
+  label-pairs h m s f =
+      let hours : t / 25 / 60 / 60 ≡ t / 90000 = omega arith in
+      let minutes : t / 25 / 60 - t / 25 / 60 / 60 * 60 ≡ t / 1500 % 60 = omega arith in
+      let seconds : t / 25 - t / 25 / 60 * 60 ≡ t / 25 % 60 = omega arith in
+      let frames : t - t / 25 * 25 ≡ t % 25 = omega arith in
+      rw (h .tens, h .ones, m .tens, m .ones, s .tens, s .ones, f .tens, f .ones, minutes, seconds, frames, hours, last-tens (t / 90000), last-ones (t / 90000))
 
 -- n bytes of s from place k on, one by one
 abbrev spell : ℕ → ℕ → List ℕ → List ℕ

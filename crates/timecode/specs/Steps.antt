@@ -2,8 +2,9 @@
 use mathlib.Core.Bool.{Bool, _&&_}
 use mathlib.Core.List.{List}
 use mathlib.Core.Path.{_≡_}
-use Prim.Native.Nat.{ℕ, _+_, _<_, _≤_}
+use Prim.Native.Nat.{ℕ, _+_, _/_, _%_, _<_, _≤_}
 use lib.ListN.{length, getD}
+use Rattle.text.specs.Digits.{lastDigit}
 use Rattle.timecode.specs.Label.{rate}
 use Rattle.timecode.specs.Read.{twoAt, twoBelow, colonAt}
 
@@ -14,6 +15,11 @@ hasColons s = colonAt s 2 && (colonAt s 5 && colonAt s 8)
 -- hours, minutes, seconds and frames, each within its range
 abbrev pub inRange : List ℕ → Bool
 inRange s = twoBelow s 0 24 && (twoBelow s 3 60 && (twoBelow s 6 60 && twoBelow s 9 rate))
+
+-- r is the two digits of n in two bytes, the first of them the lower
+pub record Pair (n r : ℕ) : Type 0 where
+  pub tens : r % 256 ≡ lastDigit (n / 10)
+  pub ones : r / 256 ≡ lastDigit n
 
 -- x is one of the bytes 0 to 9
 pub record Digit (x : ℕ) : Type 0 where

@@ -2,14 +2,13 @@
 use refusal::Refusal;
 use text::Written;
 ghost use mathlib.Core.Path.{_≡_};
-ghost use Prim.Native.Nat.{_+_, _/_, _<_};
+ghost use Prim.Native.Nat.{_+_, _<_};
 ghost use lib.ListN.{length};
-ghost use Rattle.text.specs.Digits.{lastDigit};
 ghost use Rattle.text.specs.Number.{isDigit};
 ghost use Rattle.text.specs.Write.{WritesIf};
 ghost use Rattle.timecode.specs.Label.{label};
 ghost use Rattle.timecode.specs.Read.{ofTimecode, inDay, takeFrame, twoAt, twoBelow, isLabel, frameOf, readTimecode};
-ghost use Rattle.timecode.specs.Steps.{hasColons, inRange, Digits, IsLabel};
+ghost use Rattle.timecode.specs.Steps.{hasColons, inRange, Pair, Digits, IsLabel};
 
 // A frame, by its number. Those of the day have labels.
 pub struct Timecode {
@@ -56,22 +55,25 @@ impl Timecode {
         ensures { λ r. ⌜ r ≡ label (self .frame) ⌝ }
     {
         let t = self.frame;
-        let hours = t / (60 * 60 * Timecode::RATE);
-        let minutes = t / (60 * Timecode::RATE) % 60;
-        let seconds = t / Timecode::RATE % 60;
-        let frames = t % Timecode::RATE;
+        let seconds = t / Timecode::RATE;
+        let minutes = seconds / 60;
+        let hours = minutes / 60;
+        let h = pair(hours % 100);
+        let m = pair(minutes - hours * 60);
+        let s = pair(seconds - minutes * 60);
+        let f = pair(t - seconds * Timecode::RATE);
         [
-            tens(hours),
-            ones(hours),
+            (h % 256) as u8,
+            (h / 256) as u8,
             b':',
-            tens(minutes),
-            ones(minutes),
+            (m % 256) as u8,
+            (m / 256) as u8,
             b':',
-            tens(seconds),
-            ones(seconds),
+            (s % 256) as u8,
+            (s / 256) as u8,
             b':',
-            tens(frames),
-            ones(frames),
+            (f % 256) as u8,
+            (f / 256) as u8,
         ]
     }
 
@@ -90,16 +92,12 @@ impl Timecode {
 
 // ---- digits written
 
-fn tens(n: u32) -> u8
-    ensures { λ r. ⌜ r ≡ lastDigit (n / 10) ⌝ }
+// The two digits of n, as one number of two bytes: a store of both costs one instruction.
+fn pair(n: u32) -> u32
+    requires { ⌜ n < 100 ⌝ }
+    ensures { λ r. ⌜ Pair n r ⌝ }
 {
-    b'0' + (n / 10 % 10) as u8
-}
-
-fn ones(n: u32) -> u8
-    ensures { λ r. ⌜ r ≡ lastDigit n ⌝ }
-{
-    b'0' + (n % 10) as u8
+    n % 10 * 256 + n / 10 + 12336
 }
 
 // ---- labels read: small tests are joined by `&`, which has no branch

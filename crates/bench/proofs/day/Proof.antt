@@ -1,3 +1,4 @@
+use Rattle.channel.specs.Answers.{state}
 use mathlib.Core.Path.{_≡_, refl, _∙_}
 use Prim.Native.Nat.{_-_}
 use native.Mathlib.Omega.{arith}
@@ -8,7 +9,7 @@ use Rattle.bench.proofs.day.Statement.{statement}
 use Rattle.bench.proofs.day.Tie as tie
 
 abbrev Inv-loop : tie.InvT-loop
-Inv-loop steps out₀ now₀ i₀ out now i = (length out ≡ length out₀) × Running (now₀ .state) steps out₀ out (now .state) i
+Inv-loop steps out₀ now₀ i₀ out now i = (length out ≡ length out₀) × Running (state now₀) steps out₀ out (state now) i
 
 abbrev μ-loop : tie.MeasureT-loop
 μ-loop steps out₀ now₀ i₀ out now i = length steps - i

@@ -1,3 +1,4 @@
+use Rattle.channel.specs.Answers.{state}
 use mathlib.Core.Path.{sym, ap, _∙_}
 use Prim.Native.Nat.{_/_, _%_}
 use native.Mathlib.Omega.{arith}
@@ -15,7 +16,7 @@ returns : tie.Need-returns
 unfolding stepOf
 returns c =
     let a = c .before .before .before .before .before .before .before .before .args in
-    one-step (chosen _ (lt-ltb _ _ (c .before .before .before .before .before .before .if1 .taken)) ∙ ap (λ (v : Verb). verbOutcome (a .channel .state) v (a .n / 10 % 65536) (a .n / 10 / 65536 % 65536)) (sym (c .before .before .before .before .before .verb-at .ensures))) (c .before .before .before .verb .ensures)
+    one-step (chosen _ (lt-ltb _ _ (c .before .before .before .before .before .before .if1 .taken)) ∙ ap (λ (v : Verb). verbOutcome (state (a .channel)) v (a .n / 10 % 65536) (a .n / 10 / 65536 % 65536)) (sym (c .before .before .before .before .before .verb-at .ensures))) (c .before .before .before .verb .ensures)
 
 returns-2 : tie.Need-returns-2
 unfolding stepOf

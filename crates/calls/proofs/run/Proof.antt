@@ -1,3 +1,4 @@
+use Rattle.channel.specs.Answers.{state}
 use mathlib.Core.Path.{_≡_, sym, _∙_}
 use Prim.Native.Nat.{_-_, _/_, _≤_}
 use native.Mathlib.Omega.{arith}
@@ -8,7 +9,7 @@ use Rattle.calls.proofs.run.Statement.{statement}
 use Rattle.calls.proofs.run.Tie as tie
 
 abbrev Inv-loop : tie.InvT-loop
-Inv-loop calls out₀ numbers₀ now₀ i₀ k₀ out numbers now i k = (length calls / 2 ≤ length numbers₀) × Going (now₀ .state) calls out₀ numbers₀ out numbers (now .state) i k
+Inv-loop calls out₀ numbers₀ now₀ i₀ k₀ out numbers now i k = (length calls / 2 ≤ length numbers₀) × Going (state now₀) calls out₀ numbers₀ out numbers (state now) i k
 
 abbrev μ-loop : tie.MeasureT-loop
 μ-loop calls out₀ numbers₀ now₀ i₀ k₀ out numbers now i k = length calls / 2 - k

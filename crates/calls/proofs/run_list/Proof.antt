@@ -30,7 +30,7 @@ returns-3 : tie.Need-returns-3
 returns-3 c =
     let a = c .before .before .before .before .before .before .before .before .before .before .before .before .before .before .before .args in
     let none = sym (c .before .before .before .before .before .before .before .before .before .before .before .fresh .ensures .number) ∙ ap ofVerdict (c .before .before .before .before .before .before .before .before .enum-told .given .1) in
-    ends (a .table) (a .period) (a .calls .now) (a .out .now) (a .numbers .now) none (c .before .before .before .before .before .before .before .if1 .left)
+    ends (a .table) (a .period) (a .calls .now) (a .out .now) (a .numbers .now) (c .before .before .before .before .run .result) none (c .before .before .before .before .before .before .before .if1 .left)
     (c .before .before .before .before .before .before .before .before .before .before .before .fresh .ensures .channel ∙ chosen _ (eq-eqb _ 0 none)) (c .before .before .before .before .run .ensures)
 
 pub run-list-spec : {M : Type 1} → statement M

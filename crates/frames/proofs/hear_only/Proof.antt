@@ -14,7 +14,7 @@ returns : tie.Need-returns
 returns c =
     let a = c .before .before .before .before .before .before .before .before .before .before .before .args in
     let e = only-heard (record { places = a .places .now; ranks = a .ranks .now; sendings = a .sendings .now; count = 1 }) (a .whole .now) (a .j) (c .before .before .before .before .before .before .before .before .before .before .before .pre .1) refl (c .before .before .before .before .before .before .before .if1 .taken) in
-    hears-as (ap sentBy (c .before .before .before .before .sender .ensures) ∙ sym e) (c .before .before .hear-sender .ensures)
+    hears-as (ap sentBy (c .before .before .before .before .sender .ensures) ∙ sym e) (c .before .before .hear-each .ensures)
 
 returns-2 : tie.Need-returns-2
 returns-2 c =

@@ -4,11 +4,8 @@ use borrow.Author.Needs.{needs}
 use Rattle.frames.proofs.heard_frame.Statement.{statement}
 use Rattle.frames.proofs.heard_frame.Tie as tie
 
-list-senders-requires : tie.Need-list-senders-requires
-list-senders-requires c κs = (c .before .before .before .before .pre .1 .1 .0, (refl, refl))
-
 turns-requires : tie.Need-turns-requires
-turns-requires c κs = let p = c .before .before .before .before .before .before .before .before .before .before .pre in (p .0, (p .1 .0, (p .1 .1 .0, lists-all (p .1 .1 .1) (c .before .before .before .before .before .list-senders .ensures))))
+turns-requires c κs = let p = c .before .before .before .before .before .before .before .before .before .before .before .before .pre in (p .0, (p .1 .0, (p .1 .1, lists-all (c .before .before .before .before .before .ranks-of .ensures) (c .before .before .before .before .before .before .before .list-senders .ensures))))
 
 pub heard-frame-spec : {M : Type 1} → statement M
-heard-frame-spec = tie.close (tie.spec list-senders-requires turns-requires (λ c. search needs) (λ c. c .before .before .turns .ensures))
+heard-frame-spec = tie.close (tie.spec (λ c κs. (c .before .before .before .before .pre .1 .1, (refl, refl))) (λ c κs. search needs) turns-requires (λ c. search needs) (λ c. c .before .before .turns .ensures))

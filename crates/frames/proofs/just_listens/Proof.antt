@@ -7,7 +7,8 @@ use Rattle.server.specs.Timers.{aged}
 use Rattle.lists.proofs.Cases.{clash, fst-true, snd-true}
 use Rattle.server.specs.Server.{sentBy}
 use Rattle.frames.specs.Steps.{heardBy}
-use Rattle.frames.proofs.Hearings.{just-listens, not-so}
+use Rattle.frames.proofs.Hearings.{just-listens}
+use Rattle.frames.proofs.Words.{not-so}
 use Rattle.frames.proofs.Lookup.{only-heard}
 use borrow.Author.Needs.{needs}
 use Rattle.frames.proofs.just_listens.Statement.{statement}

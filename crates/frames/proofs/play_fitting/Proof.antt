@@ -6,7 +6,8 @@ use native.Mathlib.Omega.{arith}
 use lib.ListN.{length}
 use Rattle.group.specs.Frame.{frameLines}
 use Rattle.frames.specs.Words.{serversOf}
-use Rattle.frames.specs.Steps.{Out, Fares, stateOf}
+use Rattle.frames.specs.Steps.{Out, Fares}
+use Rattle.frames.specs.Answers.{stateOf}
 use Rattle.frames.proofs.Fitting.{fares-one, fares-not}
 use borrow.Author.Needs.{needs}
 use Rattle.frames.proofs.play_fitting.Statement.{statement}
@@ -28,4 +29,4 @@ returns-2 c =
     (c .before .before .before .before .before .before .before .pre .0, rw (f .1) (fares-not ch (sym (f .0) ∙ c .if1 .left)))
 
 pub play-fitting-spec : {M : Type 1} → statement M
-play-fitting-spec = tie.close (tie.spec (λ c κs. c .before .before .before .pre .1) (λ c κs. (c .before .before .before .before .before .before .before .before .before .pre .0, c .before .before .before .before .before .before .before .before .before .pre .1 .1)) (λ c. omega (arith, c .before .before .before .before .before .before .before .before .before .before .before .before .pre .1 .1 .0)) (λ c. search needs) returns (λ c. ap length (c .before .before .before .frame-fits .ensures .1)) returns-2)
+play-fitting-spec = tie.close (tie.spec (λ c κs. c .before .before .before .pre) (λ c κs. (c .before .before .before .before .before .before .before .before .before .pre .0, c .before .before .before .before .before .before .before .before .before .pre .1 .1)) (λ c. omega (arith, c .before .before .before .before .before .before .before .before .before .before .before .before .pre .1 .1 .0)) (λ c. search needs) returns (λ c. ap length (c .before .before .before .frame-fits .ensures .1)) returns-2)

@@ -1,5 +1,5 @@
 use Rattle.frames.specs.Words.{serversOf}
-use Rattle.frames.specs.Steps.{stateOf}
+use Rattle.frames.specs.Answers.{stateOf}
 use Rattle.frames.proofs.Words.{long-of}
 use Rattle.frames.proofs.Loud.{loud-quiet}
 use Rattle.frames.proofs.Playing.{ticks-run}
@@ -14,4 +14,4 @@ returns c =
     (p .0, ticks-run (stateOf (a .before) (a .period) (serversOf (a .words .now)) (a .whole .now)) (loud-quiet (c .before .before .before .before .before .before .before .pre .1 .1 .1) (c .before .before .before .before .before .if1 .taken)) (long-of (a .words .now)) (p .1))
 
 pub play-frame-spec : {M : Type 1} → statement M
-play-frame-spec = tie.close (tie.spec (λ c κs. (c .before .before .before .before .pre .0, (c .before .before .before .before .pre .1 .0, c .before .before .before .before .pre .1 .1 .0 .0))) (λ c κs. (c .before .before .before .before .pre .0, (c .before .before .before .before .pre .1 .0, c .before .before .before .before .pre .1 .1 .0))) (λ c. search needs) returns (λ c. search needs) (λ c. c .before .before .heard-frame .ensures))
+play-frame-spec = tie.close (tie.spec (λ c κs. (c .before .before .before .before .pre .0, (c .before .before .before .before .pre .1 .0, c .before .before .before .before .pre .1 .1 .0))) (λ c κs. (c .before .before .before .before .pre .0, (c .before .before .before .before .pre .1 .0, c .before .before .before .before .pre .1 .1 .0))) (λ c. search needs) returns (λ c. search needs) (λ c. c .before .before .heard-frame .ensures))

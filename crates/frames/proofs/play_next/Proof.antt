@@ -1,6 +1,6 @@
 use native.Mathlib.Omega.{arith}
 use Rattle.frames.specs.Words.{serversOf}
-use Rattle.frames.specs.Steps.{stateOf}
+use Rattle.frames.specs.Answers.{stateOf}
 use Rattle.frames.proofs.Playing.{next-step, next-none}
 use borrow.Author.Needs.{needs}
 use Rattle.frames.proofs.play_next.Statement.{statement}

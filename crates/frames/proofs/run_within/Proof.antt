@@ -1,10 +1,22 @@
-use Rattle.frames.proofs.Fitting.{hop-within}
+use Rattle.group.specs.declared.State.{State}
+use Rattle.frames.specs.Words.{serversOf}
+use Rattle.frames.specs.Answers.{stateOf}
+use Rattle.frames.proofs.Fitting.{within-short, within-fits}
 use borrow.Author.Needs.{needs}
 use Rattle.frames.proofs.run_within.Statement.{statement}
 use Rattle.frames.proofs.run_within.Tie as tie
 
 returns : tie.Need-returns
-returns c = let a = c .before .before .before .before .args in hop-within (a .state) (a .target) (a .out .now) (c .before .before .is-quiet .ensures (c .before .if1 .taken)) (c .hop .ensures)
+returns c =
+    let a = c .before .before .before .before .before .before .before .args in
+    let s : State = stateOf (a .frame) (a .period) (serversOf (a .words)) (a .whole .now) in
+    within-short s (a .target) (c .before .before .before .before .play-within .ensures) (c .if1 .taken)
+
+returns-2 : tie.Need-returns-2
+returns-2 c =
+    let a = c .before .before .before .before .before .before .before .before .args in
+    let s : State = stateOf (a .frame) (a .period) (serversOf (a .words)) (a .whole .now) in
+    within-fits s (a .target) (c .before .before .before .before .before .play-within .ensures) (c .before .if1 .left)
 
 pub run-within-spec : {M : Type 1} → statement M
-run-within-spec = tie.close (tie.spec (λ c κs. search needs) (λ c κs. search needs) (λ c κs. search needs) returns (λ c. search needs) (λ c. c .before .before .run-fitting .ensures))
+run-within-spec = tie.close (tie.spec (λ c κs. search needs) (λ c. search needs) returns (λ c. search needs) returns-2)

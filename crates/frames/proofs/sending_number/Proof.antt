@@ -1,21 +1,21 @@
+use Rattle.lists.proofs.Cases.{bit-small}
 use Prim.Native.Nat.{_≤_}
 use native.Mathlib.Omega.{arith}
 use mathlib.Core.Path.{ap}
 use Rattle.lists.specs.Choice.{choose}
-use Rattle.frames.proofs.Words.{choice-bit}
 use Prim.Native.Nat.{ℕ, _+_, _*_}
 use borrow.Author.Needs.{needs}
 use Rattle.frames.proofs.sending_number.Statement.{statement}
 use Rattle.frames.proofs.sending_number.Tie as tie
 
 add-result : tie.Need-add-result
-add-result c = omega (arith, c .flag .ensures, choice-bit (c .before .before .args .s .reveal))
+add-result c = omega (arith, c .flag .ensures, bit-small (c .before .before .args .s .reveal))
 
 mul-result-2 : tie.Need-mul-result-2
-mul-result-2 c = omega (arith, c .flag .ensures, choice-bit (c .before .before .args .s .reveal))
+mul-result-2 c = omega (arith, c .flag .ensures, bit-small (c .before .before .args .s .reveal))
 
 add-result-2 : tie.Need-add-result-2
-add-result-2 c = omega (arith, c .before .flag .ensures, choice-bit (c .before .before .before .args .s .reveal))
+add-result-2 c = omega (arith, c .before .flag .ensures, bit-small (c .before .before .before .args .s .reveal))
 
 returns : tie.Need-returns
 returns c =

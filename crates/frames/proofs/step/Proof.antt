@@ -1,5 +1,5 @@
 use Rattle.frames.specs.Words.{serversOf}
-use Rattle.frames.specs.Steps.{stateOf}
+use Rattle.frames.specs.Answers.{stateOf}
 use Rattle.frames.proofs.Playing.{goes-jump}
 use borrow.Author.Needs.{needs}
 use Rattle.frames.proofs.step.Statement.{statement}
@@ -12,4 +12,4 @@ returns c =
     (p .0, goes-jump (stateOf (a .frame) (a .period) (serversOf (a .words .now)) (a .whole .now)) (c .before .before .before .before .before .before .before .before .before .before .pre .1 .0) (c .before .before .before .before .before .jump .ensures) (p .1))
 
 pub step-spec : {M : Type 1} → statement M
-step-spec = tie.close (tie.spec (λ c κs. c .before .before .pre .1 .1 .0) (λ c κs. (c .before .before .before .before .pre .1 .0, (c .before .before .before .before .pre .1 .1 .0, c .before .loudest .ensures))) (λ c κs. (c .before .before .before .before .before .before .before .pre .0, (c .before .before .before .before .before .before .before .pre .1 .1, c .before .before .before .before .loudest .ensures))) (λ c. search needs) returns)
+step-spec = tie.close (tie.spec (λ c κs. c .before .before .pre .1 .1) (λ c κs. (c .before .before .before .before .pre .1 .0, (c .before .before .before .before .pre .1 .1, c .before .loudest .ensures))) (λ c κs. (c .before .before .before .before .before .before .before .pre .0, (c .before .before .before .before .before .before .before .pre .1 .1, c .before .before .before .before .loudest .ensures))) (λ c. search needs) returns)

@@ -1,3 +1,4 @@
+use Rattle.lists.proofs.Cases.{bit-small}
 use mathlib.Core.Path.{_≡_, sym, ap, ap₂, _∙_}
 use mathlib.Core.List.{List}
 use Prim.Native.Nat.{ℕ, _+_, _*_, _<_}
@@ -5,7 +6,7 @@ use native.Mathlib.Omega.{arith}
 use lib.ListN.{length}
 use Rattle.server.specs.Verbs.{roleNumber}
 use Rattle.frames.specs.Words.{headNumber, sendingNumber, serversOf}
-use Rattle.frames.proofs.Words.{put5, length5, store-is, role-small, choice-bit}
+use Rattle.frames.proofs.Words.{put5, length5, store-is, role-small}
 use borrow.Author.Needs.{needs}
 use Rattle.frames.proofs.store.Statement.{statement}
 use Rattle.frames.proofs.store.Tie as tie

@@ -1,25 +1,44 @@
-use mathlib.Core.Path.{_∙_, ap, subst}
-use mathlib.Core.List.{List}
-use Rattle.text.specs.Steps.{Pieces}
-use Rattle.text.proofs.Writing.{first-piece, chain}
+use native.Mathlib.Omega.{arith}
 use Rattle.server.specs.Words.{wordBytes}
-use Rattle.lines.proofs.Pieces.{line-pieces}
+use Rattle.lines.proofs.Pieces.{line-long}
+use Rattle.lines.proofs.Puts.{tab-room, digits-room, end-room, line-put}
 use borrow.Author.Needs.{needs}
 use Rattle.lines.proofs.put_line.Statement.{statement}
 use Rattle.lines.proofs.put_line.Tie as tie
 
+put-bytes-requires : tie.Need-put-bytes-requires
+put-bytes-requires c κs = let a = c .before .before .before .before .args in omega (arith, c .before .before .before .before .pre, line-long (a .frame) (a .identity) (wordBytes (a .word)))
+
+put-bytes-requires-2 : tie.Need-put-bytes-requires-2
+put-bytes-requires-2 c κs =
+    let a = c .before .before .before .before .before .before .before .before .before .args in
+    tab-room (a .frame) (a .identity) (wordBytes (a .word)) (c .before .before .before .before .before .before .before .before .before .pre) (rw (c .before .before .before .before .before .before .before .label .ensures) at (c .before .before .before .before .put-bytes .ensures))
+
+put-digits-requires : tie.Need-put-digits-requires
+put-digits-requires c κs =
+    let a = c .before .before .before .before .before .before .before .before .before .before .before .before .before .args in
+    digits-room (a .frame) (a .identity) (wordBytes (a .word)) (c .before .before .before .before .before .before .before .before .before .before .before .before .before .pre) (rw (c .before .before .before .before .before .before .before .before .before .before .before .label .ensures) at (c .before .before .before .before .before .before .before .before .put-bytes .ensures)) (c .before .before .before .put-bytes2 .ensures)
+
+put-end-requires : tie.Need-put-end-requires
+put-end-requires c κs =
+    let a = c .before .before .before .before .before .before .before .before .before .before .before .before .before .before .before .before .before .args in
+    end-room (a .frame) (a .identity) (wordBytes (a .word)) (c .before .before .before .before .before .before .before .before .before .before .before .before .before .before .before .before .before .pre) (rw (c .before .before .before .before .before .before .before .before .before .before .before .before .before .before .before .label .ensures) at (c .before .before .before .before .before .before .before .before .before .before .before .before .put-bytes .ensures)) (c .before .before .before .before .before .before .before .put-bytes2 .ensures) (c .before .before .before .put-digits .ensures)
+
 returns : tie.Need-returns
 returns c =
-    let a = c .before .before .before .before .before .before .before .before .before .before .before .before .before .before .before .before .before .before .before .before .before .before .before .before .before .before .before .before .before .before .args in
-    rw (← line-pieces (a .frame) (a .identity) (wordBytes (a .word)))
-    (chain
-    (chain
-    (chain (chain (chain (first-piece (rw (c .before .before .before .before .before .before .before .before .before .before .before .before .before .before .before .before .before .before .before .before .before .before .before .before .before .before .before .before .label .ensures) at (c .before .before .before .before .before .before .before .before .before .before .before .before .before .before .before .before .before .before .before .before .before .before .before .before .before .write-bytes .ensures))) (c .before .before .before .before .before .before .before .before .before .before .before .before .before .before .before .before .before .before .before .before .then-bytes .ensures)) (c .before .before .before .before .before .before .before .before .before .before .before .before .before .before .before .before .then-number .ensures)) (c .before .before .before .before .before .before .before .before .before .before .before .then-bytes2 .ensures))
-    (c .before .before .before .before .before .before .before .then-word .ensures))
-    (c .before .before .then-bytes3 .ensures))
-
-same-length : tie.Need-same-length
-same-length c = returns c .kept
+    let a = c .before .before .before .before .before .before .before .before .before .before .before .before .before .before .before .before .before .before .before .before .args in
+    line-put (a .frame) (a .identity) (wordBytes (a .word)) (c .before .before .before .before .before .before .before .before .before .before .before .before .before .before .before .before .before .before .before .before .pre) (rw (c .before .before .before .before .before .before .before .before .before .before .before .before .before .before .before .before .before .before .label .ensures) at (c .before .before .before .before .before .before .before .before .before .before .before .before .before .before .before .put-bytes .ensures)) (c .before .before .before .before .before .before .before .before .before .before .put-bytes2 .ensures) (c .before .before .before .before .before .before .put-digits .ensures) (c .before .before .put-end .ensures)
 
 pub put-line-spec : {M : Type 1} → statement M
-put-line-spec = tie.close (tie.spec (λ c κs. search needs) (λ c. search needs) (λ c κs. search needs) (λ c. search needs) (λ c κs. search needs) (λ c κs. search needs) (λ c. search needs) (λ c κs. search needs) (λ c κs. search needs) (λ c. search needs) (λ c κs. search needs) same-length returns)
+put-line-spec =
+    tie.close
+    (tie.spec
+    (λ c κs. search needs)
+    (λ c. search needs)
+    put-bytes-requires
+    (λ c. search needs)
+    put-bytes-requires-2
+    put-digits-requires
+    put-end-requires
+    (λ c. search needs)
+    returns)

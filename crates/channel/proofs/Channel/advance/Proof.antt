@@ -1,3 +1,4 @@
+use Rattle.channel.specs.Answers.{state}
 use mathlib.Core.Path.{_≡_, refl, sym, ap, _∙_}
 use mathlib.Core.List.{append-nil}
 use Prim.Native.Nat.{ℕ, _+_, _-_}
@@ -16,12 +17,12 @@ use Rattle.channel.proofs.Channel.advance.Tie as tie
 returns : tie.Need-returns
 returns c =
     let a = c .before .before .before .before .args in
-    answers-refused (a .self) (stepOutcome (a .self .state)) (a .out .now) (c .refused .ensures) (other _ (le-ltb (a .self .state .frame + 1) dayLength (omega arith)))
+    answers-refused (a .self) (stepOutcome (state (a .self))) (a .out .now) (c .refused .ensures) (other _ (le-ltb (a .self .frame + 1) dayLength (omega arith)))
 
 returns-2 : tie.Need-returns-2
 unfolding advancedBy linesBy
 returns-2 c =
-    let s = c .before .before .before .before .before .before .before .before .args .self .state in
+    let s = state (c .before .before .before .before .before .before .before .before .args .self) in
     let one : (s .frame + 1) - s .frame ≡ 1 = omega arith in
     gives-as (sym (chosen _ (lt-ltb (s .frame + 1) dayLength (omega arith)))) (ap (λ (n : ℕ). linesBy n s) one ∙ append-nil (frameLines s)) (ap (λ (n : ℕ). advancedBy n s) one) (c .before .before .run .ensures)
 

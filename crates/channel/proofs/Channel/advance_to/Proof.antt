@@ -1,3 +1,4 @@
+use Rattle.channel.specs.Answers.{state}
 use mathlib.Core.Path.{refl, sym, _∙_}
 use native.Mathlib.Omega.{arith}
 use borrow.Author.Tests.{lt-ltb, le-ltb}
@@ -13,13 +14,13 @@ returns : tie.Need-returns
 unfolding timeRefusal
 returns c =
     let a = c .before .before .before .args in
-    answers-refused (a .self) (timeOutcome (a .self .state) (a .time)) (a .out .now) (c .refused .ensures) (other _ (le-ltb _ _ (c .before .if1 .taken)))
+    answers-refused (a .self) (timeOutcome (state (a .self)) (a .time)) (a .out .now) (c .refused .ensures) (other _ (le-ltb _ _ (c .before .if1 .taken)))
 
 returns-2 : tie.Need-returns-2
 unfolding timeRefusal
 returns-2 c =
     let a = c .before .before .before .before .before .args in
-    answers-refused (a .self) (timeOutcome (a .self .state) (a .time)) (a .out .now) (c .refused2 .ensures)
+    answers-refused (a .self) (timeOutcome (state (a .self)) (a .time)) (a .out .now) (c .refused2 .ensures)
     (chosen _ (lt-ltb _ _ (c .before .before .before .if1 .left)) ∙ chosen _ (lt-ltb _ _ (c .before .if2 .taken)))
 
 returns-3 : tie.Need-returns-3

@@ -1,15 +1,16 @@
-use mathlib.Core.Path.{refl}
+use mathlib.Core.Path.{_≡_, refl, ap, sym}
 use native.Mathlib.Omega.{arith}
+use Rattle.channel.specs.Answers.{state}
 use Rattle.channel.proofs.Answering.{within-later}
 use borrow.Author.Needs.{needs}
 use Rattle.channel.proofs.Channel.run_within.Statement.{statement}
 use Rattle.channel.proofs.Channel.run_within.Tie as tie
 
-sub-frames : tie.Need-sub-frames
-sub-frames c = within-later (c .before .before .before .before .before .before .before .before .before .args .self .state) (c .before .before .before .before .before .before .before .before .before .args .target) (c .before .before .before .before .before .run-within .ensures)
+sub-t14 : tie.Need-sub-t14
+sub-t14 c = within-later (state (c .before .before .before .before .before .before .before .before .before .before .before .before .before .args .self)) (c .before .before .before .before .before .before .before .before .before .before .before .before .before .args .target) (c .before .before .before .before .before .before .run-within .ensures)
 
 returns : tie.Need-returns
-returns c = record { answer = c .before .before .before .before .before .run-within .ensures; frames = refl }
+returns c = rw (c .before .before .moved .ensures) (record { answer = c .before .before .before .before .before .before .run-within .ensures; frames = refl })
 
 pub run-within-spec : {M : Type 1} → statement M
-run-within-spec = tie.close (tie.spec (λ c κs. search needs) sub-frames (λ c. search needs) returns)
+run-within-spec = tie.close (tie.spec (λ c κs. search needs) (λ c κs. search needs) sub-t14 (λ c. search needs) returns)

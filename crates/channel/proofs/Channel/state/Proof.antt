@@ -1,0 +1,13 @@
+use mathlib.Core.Path.{ap}
+use mathlib.Core.List.{List}
+use Rattle.server.specs.declared.Server.{Server}
+use Rattle.frames.specs.Answers.{stateOf}
+use borrow.Author.Needs.{needs}
+use Rattle.channel.proofs.Channel.state.Statement.{statement}
+use Rattle.channel.proofs.Channel.state.Tie as tie
+
+returns : tie.Need-returns
+returns c = let s = c .before .before .before .before .before .args .self in ap (λ (l : List Server). stateOf (s .frame) (s .period) l (s .whole)) (c .before .before .servers-of .ensures)
+
+pub state-spec : {M : Type 1} → statement M
+state-spec = tie.close (tie.spec (λ c κs. search needs) returns)

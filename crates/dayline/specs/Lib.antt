@@ -1,0 +1,2 @@
+pub mod DayLine
+pub mod Steps
