@@ -1,5 +1,6 @@
-//! The same days through the model in place and through the engine, and how long each takes. Each
-//! step is lent 50,000,000 bytes. The engine advances within the slice, as a day does.
+//! The same days through the model in place and through the engine, and how long each takes: first
+//! as lists of calls, in one process, then as files, each through two programs. In a list each step
+//! is lent 50,000,000 bytes, and the engine advances within the slice, as a day does.
 
 #![allow(dead_code)]
 
@@ -23,10 +24,17 @@ mod text;
 use bench::Case;
 use calls::{Call, What, MOST_LENT};
 use channel::Verb;
-use std::process::ExitCode;
+use std::fs::{self, File};
+use std::io;
+use std::path::Path;
+use std::process::{Command, ExitCode, Stdio};
 use std::time::{Duration, Instant};
 
 const ROUNDS: usize = 5;
+const PROGRAM_ROUNDS: usize = 9;
+
+const MODEL: &str = concat!(env!("CARGO_MANIFEST_DIR"), "/../model/target/release/model");
+const SHEET: &str = concat!(env!("CARGO_MANIFEST_DIR"), "/../target/bin/sheet");
 
 // a slice is a pointer and a length
 extern "C" {
@@ -93,6 +101,7 @@ impl Day {
     }
 }
 
+/// Of one case: how many calls, or lines of a day; the bytes that come of them; and the best times.
 struct Row {
     calls: usize,
     bytes: u64,
@@ -131,23 +140,80 @@ fn time(calls: &[Call], ours: &mut [u8], theirs: &mut [u8]) -> Result<Row, Strin
     Ok(row)
 }
 
-fn main() -> ExitCode {
+/// A program that reads a day on standard input.
+fn program(path: &str, words: &[&str], day: &Path, sheet: Stdio) -> io::Result<Command> {
+    let mut command = Command::new(path);
+    command.args(words).stdin(File::open(day)?).stdout(sheet);
+    Ok(command)
+}
+
+/// The time of a whole process, whose sheet nobody reads.
+fn process(path: &str, words: &[&str], day: &Path) -> io::Result<Duration> {
+    let mut command = program(path, words, day, Stdio::null())?;
+    let start = Instant::now();
+    let status = command.status()?;
+    let time = start.elapsed();
+    if status.success() {
+        Ok(time)
+    } else {
+        Err(io::Error::other(format!("{path}: {status}")))
+    }
+}
+
+/// The same for the two programs on one day, with its lines in place of calls.
+fn time_programs(day: &[u8], file: &Path) -> Result<Row, String> {
+    let fault = |error: io::Error| error.to_string();
+    fs::write(file, day).map_err(fault)?;
+    let sheet = |path, words: &[&str]| {
+        program(path, words, file, Stdio::piped()).and_then(|mut command| command.output())
+    };
+    let wanted = sheet(MODEL, &["fast"]).map_err(fault)?.stdout;
+    if sheet(SHEET, &[]).map_err(fault)?.stdout != wanted {
+        return Err("the sheets differ".to_string());
+    }
+    let lines = day.iter().filter(|&&byte| byte == b'\n').count();
+    let bytes = wanted.len() as u64;
+    let mut row = Row { calls: lines, bytes, model: Duration::MAX, engine: Duration::MAX };
+    for _ in 0..PROGRAM_ROUNDS {
+        row.model = row.model.min(process(MODEL, &["fast"], file).map_err(fault)?);
+        row.engine = row.engine.min(process(SHEET, &[], file).map_err(fault)?);
+    }
+    Ok(row)
+}
+
+/// A line for each case, until one fails.
+fn table(mut row: impl FnMut(Case) -> Result<Row, String>) -> Result<(), String> {
+    for (case, letter) in Case::ALL.into_iter().zip(["a", "b", "c", "d"]) {
+        let Row { calls, bytes, model, engine } =
+            row(case).map_err(|difference| format!("case {letter}: {difference}"))?;
+        let [model, engine] = [model, engine].map(|time| time.as_secs_f64() * 1000.0);
+        let ratio = engine / model;
+        println!("{letter:<4}  {calls:>7}  {bytes:>13}  {model:>9.2}  {engine:>9.2}  {ratio:>6.2}");
+    }
+    Ok(())
+}
+
+fn tables(file: &Path) -> Result<(), String> {
     let mut ours = vec![0; MOST_LENT];
     let mut theirs = vec![0; MOST_LENT];
+    println!("lists of calls, the libraries in one process");
     println!("case    calls  bytes written   model ms  engine ms   ratio");
-    for (case, letter) in Case::ALL.into_iter().zip(["a", "b", "c", "d"]) {
-        let calls = bench::list(case, text::LAST_FRAME);
-        match time(&calls, &mut ours, &mut theirs) {
-            Ok(Row { calls, bytes, model, engine }) => {
-                let [model, engine] = [model, engine].map(|time| time.as_secs_f64() * 1000.0);
-                let ratio = engine / model;
-                println!("{letter:<4}  {calls:>7}  {bytes:>13}  {model:>9.2}  {engine:>9.2}  {ratio:>6.2}");
-            }
-            Err(difference) => {
-                eprintln!("case {letter}: {difference}");
-                return ExitCode::FAILURE;
-            }
+    table(|case| time(&bench::list(case, text::LAST_FRAME), &mut ours, &mut theirs))?;
+    println!("days as files, a process for each: the program fast of the model, and sheet");
+    println!("case    lines  bytes printed   model ms  engine ms   ratio");
+    table(|case| time_programs(&bench::day(case, text::LAST_FRAME), file))
+}
+
+fn main() -> ExitCode {
+    let file = std::env::temp_dir().join(format!("bench-{}.day", std::process::id()));
+    let done = tables(&file);
+    // it may not be there
+    let _ = fs::remove_file(&file);
+    match done {
+        Ok(()) => ExitCode::SUCCESS,
+        Err(difference) => {
+            eprintln!("{difference}");
+            ExitCode::FAILURE
         }
     }
-    ExitCode::SUCCESS
 }

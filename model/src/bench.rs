@@ -1,4 +1,4 @@
-//! Whole days as lists of calls, and the time that they take in place.
+//! Whole days as lists of calls and as files, and the time that the lists take in place.
 
 use crate::calls::{Call, What, MOST_LENT};
 use crate::channel::{Role, Verb};
@@ -33,6 +33,17 @@ impl Case {
 /// The list of a case. A whole day has LAST_FRAME as its last frame; a smaller one cuts the day
 /// short.
 pub fn list(case: Case, last: u32) -> Vec<Call> {
+    record(case, last).calls
+}
+
+/// The same day as a file.
+pub fn day(case: Case, last: u32) -> Vec<u8> {
+    let mut script = record(case, last).script;
+    script.end_at(last);
+    script.text()
+}
+
+fn record(case: Case, last: u32) -> Recorder {
     match case {
         Case::A => regular(last),
         Case::B => few(last),
@@ -41,7 +52,7 @@ pub fn list(case: Case, last: u32) -> Vec<Call> {
     }
 }
 
-fn regular(last: u32) -> Vec<Call> {
+fn regular(last: u32) -> Recorder {
     let (mut rng, mut list) = ready(Case::A, 16, 16);
     for time in (100..=last).step_by(100) {
         list.advance_to(time);
@@ -51,7 +62,7 @@ fn regular(last: u32) -> Vec<Call> {
 }
 
 /// Something every 100,000 frames, and its undoing 500 frames after it.
-fn few(last: u32) -> Vec<Call> {
+fn few(last: u32) -> Recorder {
     let (_, mut list) = ready(Case::B, 2, 2);
     for (turn, time) in (100_000..=last).step_by(100_000).enumerate() {
         list.advance_to(time);
@@ -88,7 +99,7 @@ fn few(last: u32) -> Vec<Call> {
 }
 
 /// Entry i is in frame i × 2,159,999 / 65,000, but the first 32 are in frame 0.
-fn dense(last: u32) -> Vec<Call> {
+fn dense(last: u32) -> Recorder {
     let (mut rng, mut list) = ready(Case::C, 16, 250);
     for entry in 32..65_000 {
         let time = (entry * u64::from(LAST_FRAME) / 65_000) as u32;
@@ -135,7 +146,7 @@ fn calm_entry(rng: &mut Rng, script: &mut Script) {
 }
 
 /// Advances of 1,000 frames.
-fn apart(last: u32) -> Vec<Call> {
+fn apart(last: u32) -> Recorder {
     let (_, mut list) = ready(Case::D, 16, 16);
     for (from, to) in list.script.channel.links(false) {
         list.script.entry(Verb::Cut, from, to);
@@ -145,7 +156,7 @@ fn apart(last: u32) -> Vec<Call> {
         list.call(What::Time { time });
     }
     list.call(What::Time { time: last });
-    list.calls
+    list
 }
 
 /// Servers with identities 1, 2 and so on and any priorities, all of them ready at frame 0.
@@ -203,9 +214,9 @@ impl Recorder {
         self.call(What::Time { time });
     }
 
-    fn end(mut self, last: u32) -> Vec<Call> {
+    fn end(mut self, last: u32) -> Recorder {
         self.advance_to(last);
-        self.calls
+        self
     }
 }
 

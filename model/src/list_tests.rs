@@ -844,6 +844,24 @@ fn short_benchmarks_agree() {
     }
 }
 
+/// The day of a case as a file: what its calls write, and a line for each that is refused.
+#[test]
+fn short_benchmark_days_are_their_lists() {
+    for (case, last) in [(Case::A, 30_000), (Case::B, 210_000), (Case::C, 30_000), (Case::D, 5_500)]
+    {
+        let mut written = Vec::new();
+        let mut buffer = vec![0; calls::MOST_LENT];
+        fast::run(&bench::list(case, last), &mut buffer, |_, lines| {
+            written.extend_from_slice(lines);
+        });
+        let sheet = day::sheet(&bench::day(case, last));
+        let lines = sheet.split_inclusive(|&byte| byte == b'\n');
+        let done = |line: &&[u8]| !line.windows(9).any(|word| word == b"\trefused-");
+        let kept: Vec<u8> = lines.skip(1).filter(done).flatten().copied().collect();
+        assert!(kept == written, "{case:?}");
+    }
+}
+
 #[test]
 fn no_advance_writes_more_than_its_bound() {
     let mut list = lists(1, 100).concat();

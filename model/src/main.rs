@@ -28,7 +28,7 @@ use std::process::ExitCode;
 
 const USAGE: &str = "usage: model sheet | fast | day SEED | long SERVERS PERIOD GAP | check N |\n\
     \x20      vectors SEED N | compare PROGRAM N SEED | lists SEED N | calls | check-calls |\n\
-    \x20      bench-list CASE | time CASE\n\
+    \x20      bench-list CASE | bench-day CASE | time CASE\n\
     sheet, fast   a day on standard input, its sheet on standard output\n\
     day           a day made from a seed\n\
     long          a whole day, period at least the servers, gap 1 or more\n\
@@ -40,6 +40,7 @@ const USAGE: &str = "usage: model sheet | fast | day SEED | long SERVERS PERIOD 
     calls         lists of calls on standard input, their answers on standard output\n\
     check-calls   the plain answers against fast, for lists on standard input\n\
     bench-list    a whole day as a list of calls, case a, b, c or d\n\
+    bench-day     the same day as a file\n\
     time          the best of three runs of a case in place, the bytes it writes, and FNV-1a over\n\
     \x20             the number of each answer, as one byte, followed by the bytes written\n";
 
@@ -77,6 +78,10 @@ fn main() -> ExitCode {
         (["check-calls"], _) => read_calls().and_then(|list| check_calls(&list)),
         (["bench-list", case], _) => match bench::Case::read(case) {
             Some(case) => print(&calls::write(&bench::list(case, text::LAST_FRAME))),
+            None => return usage(),
+        },
+        (["bench-day", case], _) => match bench::Case::read(case) {
+            Some(case) => print(&bench::day(case, text::LAST_FRAME)),
             None => return usage(),
         },
         (["time", case], _) => match bench::Case::read(case) {

@@ -10,11 +10,11 @@ use Rattle.group.specs.declared.State.{State}
 use Rattle.group.specs.Outcome.{Outcome, channelIn, sliceIn}
 use Rattle.group.specs.Table.{empty, added, freshRefusal, fresh}
 use Rattle.group.specs.Verbs.{verbOutcome}
-use Rattle.group.specs.Advance.{withinOutcome}
+use Rattle.group.specs.Advance.{withinGoes}
 use Rattle.group.specs.Answers.{noChannel}
 use Rattle.calls.specs.Encoding.{verbAt}
 
--- the table t with the servers of a list, an identity and a priority each; one that is refused is left out
+-- the table t with the servers of a list, an identity and a priority each, of which the lowest 16 and 8 bits count; one that is refused is left out
 unfoldable pub tableFrom : Table → List ℕ → Table
 tableFrom t [] = t
 tableFrom t (i ∷ []) = t
@@ -23,12 +23,13 @@ tableFrom t (i ∷ p ∷ l) = tableFrom (added t (i % 65536) (p % 256)) l
 abbrev pub tableOf : List ℕ → Table
 tableOf l = tableFrom empty l
 
--- the step of the number n with a slice of so many bytes: a verb, or as many advances towards a time as fit
+-- the step of the number n with a slice of so many bytes: a verb, or as many advances towards a frame as fit. It is for measuring: no time is tested, and no
+-- number of a refusal is kept
 unfoldable pub stepOf : State → ℕ → ℕ → Outcome
 stepOf c n room =
     choose (ltb (n % 10) 8)
     (verbOutcome c (verbAt (n % 10)) (n / 10 % 65536) (n / 10 / 65536 % 65536))
-    (withinOutcome c (n / 10 % 4294967296) room)
+    (withinGoes c (n / 10 % 4294967296) room)
 
 -- the state that it hands back, and the slice afterwards
 abbrev pub stateOne : State → ℕ → List ℕ → State

@@ -1,8 +1,10 @@
 // A day for the benchmark, exported for Rust to link.
-use channel::Channel;
+use group::State;
 use group::Table;
+use server::Period;
 ghost use mathlib.Core.Path.{_≡_};
-ghost use Rattle.channel.specs.Answers.{state};
+ghost use Rattle.frames.specs.Words.{serversOf};
+ghost use Rattle.frames.specs.Answers.{stateOf};
 ghost use Rattle.bench.specs.Bench.{tableOf, OneStep, DayRuns, DayEnds};
 
 // The table of the servers, an identity and a priority each; those that are refused are left out.
@@ -24,35 +26,57 @@ fn table_of(servers: &[u64]) -> Table
     table
 }
 
-// A verb, or the advance towards a time, by its number; it is lent the whole slice.
-fn one(channel: Channel, n: u64, out: &mut [u8]) -> Channel
-    ensures { λ r. ⌜ OneStep (state channel) n (now (out .entry)) (state r) (now (out .exit)) ⌝ }
+// A verb, or the advance towards a time, by its number, in place; it is lent the whole slice. The frame afterwards.
+fn one(
+    words: &mut [u32; 80],
+    whole: &mut [bool; 256],
+    period: Period,
+    frame: u32,
+    n: u64,
+    out: &mut [u8],
+) -> u32
+    ensures { λ r. ⌜ OneStep (stateOf frame period (serversOf (now (words .entry))) (now (whole .entry))) n (now (out .entry)) (stateOf r period (serversOf (now (words .exit))) (now (whole .exit))) (now (out .exit)) ⌝ }
 {
     let kind = n % 10;
     let about = n / 10;
     if kind < 8 {
         let first = (about % 65536) as u16;
         let second = (about / 65536 % 65536) as u16;
-        let answer = channel.verb(calls::verb_at(kind), first, second, out);
-        answer.channel
+        verbs::act(
+            words,
+            whole,
+            frame,
+            calls::verb_at(kind),
+            first,
+            second,
+            out,
+        );
+        frame
     } else {
-        let within = channel.advance_within((about % 4294967296) as u32, out);
-        within.channel
+        let target = (about % 4294967296) as u32;
+        let ran = frames::run_within(words, whole, period, frame, target, out);
+        ran.frame
     }
 }
 
-// One after the other.
-fn day(channel: Channel, steps: &[u64], out: &mut [u8]) -> Channel
-    ensures { λ r. ⌜ DayRuns (state channel) (now (steps .entry)) (now (out .entry)) (state r) (now (out .exit)) ⌝ }
+// One after the other, from the first frame on.
+fn day(
+    words: &mut [u32; 80],
+    whole: &mut [bool; 256],
+    period: Period,
+    first: u32,
+    steps: &[u64],
+    out: &mut [u8],
+) -> u32
+    ensures { λ r. ⌜ DayRuns (stateOf first period (serversOf (now (words .entry))) (now (whole .entry))) (now (steps .entry)) (now (out .entry)) (stateOf r period (serversOf (now (words .exit))) (now (whole .exit))) (now (out .exit)) ⌝ }
 {
-    let mut now = channel;
+    let mut frame = first;
     let mut i: usize = 0;
     while i < steps.len() {
-        let next = one(now, steps[i], out);
-        now = next;
+        frame = one(words, whole, period, frame, steps[i], out);
         i += 1;
     }
-    now
+    frame
 }
 
 // The day on the fresh channel of the servers: the frame that it ends in.
@@ -61,8 +85,11 @@ pub extern "C" fn bench_day(servers: &[u64], period: u32, steps: &[u64], out: &m
     ensures { λ r. ⌜ DayEnds (now (servers .entry)) period (now (steps .entry)) (now (out .entry)) r (now (out .exit)) ⌝ }
 {
     let table = table_of(servers);
-    let opened = Channel::fresh(table, period);
-    let channel = opened.channel;
-    let ended = day(channel, steps, out);
-    ended.frame()
+    let opened = State::fresh(table, period);
+    let state = opened.state;
+    let listed = state.servers;
+    let mut words = frames::words_of(listed);
+    let mut whole = state.whole;
+    let p = state.period;
+    day(&mut words, &mut whole, p, state.frame, steps, out)
 }

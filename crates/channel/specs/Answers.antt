@@ -26,8 +26,8 @@ pub record Opens (t : Table) (n : ℕ) (r : Opened) : Type 0 where
   pub number : ofVerdict (r .verdict) ≡ freshRefusal t n
   pub channel : state (r .channel) ≡ choose (eqb (freshRefusal t n) 0) (fresh t n) noChannel
 
--- a listed call on the channel c with the lent slice d: its answer, and the slice afterwards. `write_refused` hands back no channel, since it changes none, and
--- writes the `refusedLine` of the crate lines
+-- a listed call on the channel c with the lent slice d: its answer, and the slice afterwards. Of the numbers for the servers that are handed
+-- back only the `state` is decided. (`write_refused`, which changes no channel, hands none back and is not said by this.)
 abbrev pub Answers : Channel → Outcome → List ℕ → Answer → List ℕ → Type 0
 Answers c o d r d′ = Gives (state c) o d (r .verdict) (r .written) (state (r .channel)) d′
 

@@ -4,26 +4,16 @@ use group::Table;
 use refusal::Refusal;
 use refusal::Verdict;
 use server::Period;
-use server::Said;
-use server::Server;
 use server::Verb;
-use server::Word;
 use text::Written;
 use timecode::Timecode;
 ghost use mathlib.Core.Path.{_≡_};
-ghost use Prim.Native.Nat.{_<_};
 ghost use lib.ListN.{length};
-ghost use Rattle.lists.specs.Choice.{choose};
-ghost use Rattle.refusal.specs.Answer.{ofVerdict};
 ghost use Rattle.text.specs.Write.{Writes};
-ghost use Rattle.server.specs.Verbs.{paired};
-ghost use Rattle.lines.specs.Lines.{linesOf, refusedLine};
-ghost use Rattle.group.specs.Table.{placeIn};
+ghost use Rattle.lines.specs.Lines.{refusedLine};
 ghost use Rattle.group.specs.Advance.{stepOutcome, timeGoes, timeOutcome, withinGoes, withinOutcome};
-ghost use Rattle.group.specs.Verbs.{namesNobody, known, verbOutcome};
-ghost use Rattle.frames.specs.Words.{serversOf};
+ghost use Rattle.group.specs.Verbs.{known, verbOutcome};
 ghost use Rattle.channel.specs.Answers.{state, Opens, Answers, AnswersWithin};
-ghost use Rattle.channel.specs.Steps.{knownAt, Does, Tells, put};
 
 // A channel in a frame, with the calls on it: its frame, its period, its servers as numbers, and which links are whole.
 pub struct Channel {
@@ -178,13 +168,12 @@ impl Channel {
     fn run_within(self, target: u32, out: &mut [u8]) -> Within
         ensures { λ r. ⌜ AnswersWithin self (withinGoes (state self) target (length (now (out .entry)))) (now (out .entry)) r (now (out .exit)) ⌝ }
     {
-        let words = self.words;
+        let mut words = self.words;
         let whole = self.whole;
         let period = self.period;
-        let ran = frames::run_within(words, &whole, period, self.frame, target, out);
+        let ran = frames::run_within(&mut words, &whole, period, self.frame, target, out);
         let verdict = ran.verdict;
-        let next = ran.words;
-        let channel = self.moved(ran.frame, next);
+        let channel = self.moved(ran.frame, words);
         Within {
             verdict,
             written: ran.written,
@@ -209,185 +198,29 @@ impl Channel {
 
 // ---- verbs
 
-// What a verb would make of its server and of its link, and what the sheet says of it. Where it is refused, only the verdict counts.
-struct Deed {
-    verdict: Verdict,
-    said: Said,
-    server: Server,
-    link: bool,
-}
-
-// The verdict on a verb, and how many bytes it wrote.
-struct Told {
-    verdict: Verdict,
-    written: usize,
-}
-
-fn names_nobody(verb: Verb, a: u16, b: u16) -> bool
-    ensures { λ r. ⌜ r ≡ namesNobody verb a b ⌝ }
-{
-    (a == 0) | (server::paired(verb) & (b == 0))
-}
-
-// The identities are in the table, at the places i and j, and differ.
-fn known(verb: Verb, a: u16, b: u16, i: usize, j: usize) -> bool
-    ensures { λ r. ⌜ r ≡ knownAt verb a b i j ⌝ }
-{
-    if server::paired(verb) {
-        (i < 16) & ((j < 16) & (a != b))
-    } else {
-        i < 16
-    }
-}
-
-// 2, 8, and what the state says.
-fn judge(verb: Verb, a: u16, b: u16, i: usize, j: usize, allowed: Verdict) -> Verdict
-    ensures { λ r. ⌜ ofVerdict r ≡ choose (namesNobody verb a b) 2 (choose (knownAt verb a b i j) (ofVerdict allowed) 8) ⌝ }
-{
-    if names_nobody(verb, a, b) {
-        return Verdict::Refused(Refusal::Number);
-    }
-    if known(verb, a, b, i, j) {
-        allowed
-    } else {
-        Verdict::Refused(Refusal::Identity)
-    }
-}
-
-// The place of the second identity, where the verb has one.
-fn second_place(words: &[u32; 80], verb: Verb, b: u16) -> usize
-    ensures { λ r. ⌜ r ≡ choose (paired verb) (placeIn (serversOf (now (words .entry))) b) 0 ⌝ }
-{
-    if server::paired(verb) {
-        frames::place_in(words, b)
-    } else {
-        0
-    }
-}
-
-fn allow_link(can: bool) -> Verdict
-    ensures { λ r. ⌜ ofVerdict r ≡ choose can 0 15 ⌝ }
-{
-    if can {
-        Verdict::Accepted
-    } else {
-        Verdict::Refused(Refusal::Link)
-    }
-}
-
-// What the state says: 12 to 15.
-fn attempt(verb: Verb, frame: u32, b: u16, s: Server, link: bool) -> Deed
-    ensures { λ r. ⌜ Does frame verb b s link r ⌝ }
-{
-    match verb {
-        Verb::Cut => Deed {
-            verdict: allow_link(link),
-            said: Said::One(Word::Cut),
-            server: s,
-            link: false,
-        },
-        Verb::Mend => Deed {
-            verdict: allow_link(!link),
-            said: Said::One(Word::Mended),
-            server: s,
-            link: true,
-        },
-        _ => {
-            let acted = s.act(verb, frame, b);
-            let verdict = acted.verdict;
-            let event = acted.event;
-            let server = acted.server;
-            Deed {
-                verdict,
-                said: event.said(),
-                server,
-                link,
-            }
-        }
-    }
-}
-
-fn silent(k: Refusal) -> Told
-    ensures { λ r. ⌜ r ≡ record { verdict = Verdict.Refused k; written = 0 } ⌝ }
-{
-    Told {
-        verdict: Verdict::Refused(k),
-        written: 0,
-    }
-}
-
-// The lines of an allowed verb, or 9.
-fn say(said: Said, frame: u32, identity: u16, out: &mut [u8]) -> Told
-    ensures { λ r. ⌜ Tells 0 (linesOf frame identity said) (now (out .entry)) r (now (out .exit)) ⌝ }
-{
-    let room = out.len();
-    let written = lines::say(out, true, 0, frame, identity, said);
-    if written > room {
-        silent(Refusal::Short)
-    } else {
-        Told {
-            verdict: Verdict::Accepted,
-            written,
-        }
-    }
-}
-
-fn tell(verdict: Verdict, said: Said, frame: u32, identity: u16, out: &mut [u8]) -> Told
-    ensures { λ r. ⌜ Tells (ofVerdict verdict) (linesOf frame identity said) (now (out .entry)) r (now (out .exit)) ⌝ }
-{
-    match verdict {
-        Verdict::Accepted => say(said, frame, identity, out),
-        Verdict::Refused(k) => silent(k),
-    }
-}
-
 impl Channel {
-    // With another server at place i, and another link from there to place j.
-    fn put(self, i: usize, j: usize, server: Server, link: bool) -> Channel
-        requires { ⌜ (i < 16) × (j < 16) ⌝ }
-        ensures { λ r. ⌜ state r ≡ put (state self) i j server link ⌝ }
-    {
-        let words = self.words;
-        let mut next = self;
-        next.words = frames::stored(words, i, server);
-        next.whole[16 * i + j] = link;
-        next
-    }
-
-    // Whether the table has a verb's identities, which differ; the second counts only where the verb has one.
+    // Whether the table has a verb's identities, which differ; the second counts only where the verb has one. Of 0 it says whether there is an empty place.
     pub fn knows(self, verb: Verb, a: u16, b: u16) -> bool
         ensures { λ r. ⌜ r ≡ known (state self) verb a b ⌝ }
     {
         let words = self.words;
-        let first = frames::place_in(&words, a);
-        let second = second_place(&words, verb, b);
-        known(verb, a, b, first, second)
+        verbs::knows(&words, verb, a, b)
     }
 
-    // Any verb; the second identity is not looked at where the verb has one only. An identity that is not in the table stands for place 0, and gets 8.
+    // Any verb; the second identity is not looked at where the verb has one only.
     pub fn verb(self, verb: Verb, a: u16, b: u16, out: &mut [u8]) -> Answer
         ensures { λ r. ⌜ Answers self (verbOutcome (state self) verb a b) (now (out .entry)) r (now (out .exit)) ⌝ }
     {
-        let words = self.words;
-        let first = frames::place_in(&words, a);
-        let second = second_place(&words, verb, b);
-        let i = first % 16;
-        let j = second % 16;
-        let s = frames::server(&words, i);
-        let deed = attempt(verb, self.frame, b, s, self.whole[16 * i + j]);
-        let allowed = deed.verdict;
-        let said = deed.said;
-        let server = deed.server;
-        let verdict = judge(verb, a, b, first, second, allowed);
-        let told = tell(verdict, said, self.frame, a, out);
-        let last = told.verdict;
-        let channel = match last {
-            Verdict::Accepted => self.put(i, j, server, deed.link),
-            Verdict::Refused(_) => self,
-        };
+        let mut words = self.words;
+        let mut whole = self.whole;
+        let acted = verbs::act(&mut words, &mut whole, self.frame, verb, a, b, out);
+        let verdict = acted.verdict;
+        let mut channel = self;
+        channel.words = words;
+        channel.whole = whole;
         Answer {
-            verdict: last,
-            written: told.written,
+            verdict,
+            written: acted.written,
             channel,
         }
     }
@@ -443,7 +276,7 @@ impl Channel {
 
     // The sheet's line of a call that was refused, at the present time; 9.
     pub fn write_refused(self, identity: u16, refusal: Refusal, out: &mut [u8]) -> Written
-        ensures { λ r. ⌜ Writes (now (out .entry)) 0 (refusedLine (self .frame) identity refusal) r (now (out .exit)) ⌝ }
+        ensures { λ r. ⌜ Writes (now (out .entry)) 0 (refusedLine (state self .frame) identity refusal) r (now (out .exit)) ⌝ }
     {
         lines::write_refused(out, self.frame, identity, refusal)
     }

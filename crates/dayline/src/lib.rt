@@ -12,6 +12,7 @@ ghost use mathlib.Core.Path.{_≡_};
 ghost use mathlib.Core.List.{[], _∷_};
 ghost use lib.ListN.{length};
 ghost use Rattle.lists.specs.Choice.{choose};
+ghost use Rattle.lists.specs.Lists.{upTo};
 ghost use Rattle.lists.specs.Lists.{same};
 ghost use Rattle.refusal.specs.Answer.{accepted, inTurn};
 ghost use Rattle.text.specs.Line.{field, afterField};
@@ -69,6 +70,28 @@ fn verb_named(s: &[u8]) -> Named
     let unready = called(s, b"unready", Verb::Unready, pass);
     let ready = called(s, b"ready", Verb::Ready, unready);
     called(s, b"start", Verb::Start, ready)
+}
+
+// ---- a field and what follows it, by the place of the first tab, which is looked for once
+
+fn field_to(s: &[u8], tab: usize) -> &[u8]
+    requires { ⌜ tab ≡ upTo 9 (now s) ⌝ }
+    ensures { λ r. ⌜ now r ≡ field (now (s .entry)) 0 ⌝ }
+{
+    let start = 0;
+    &s[start..tab]
+}
+
+fn field_from(s: &[u8], tab: usize) -> &[u8]
+    requires { ⌜ tab ≡ upTo 9 (now s) ⌝ }
+    ensures { λ r. ⌜ now r ≡ afterField (now (s .entry)) ⌝ }
+{
+    if tab < s.len() {
+        let start = tab + 1;
+        &s[start..]
+    } else {
+        &s[tab..]
+    }
 }
 
 // ---- the fields after the line's word
@@ -146,8 +169,9 @@ fn after_first(verb: Verb, time: u32, first: u16, s: &[u8]) -> DayLine
 fn from_first(verb: Verb, time: u32, s: &[u8]) -> DayLine
     ensures { λ r. ⌜ ofDayLine r ≡ whenGood (inTurn (accepted (time ∷ [])) (inTurn (readIdentity (field (now (s .entry)) 0)) (readSecond verb (field (now (s .entry)) 1)))) (entryOf verb) ⌝ }
 {
-    match Rank::read_identity(text::first_field(s)) {
-        NumberAnswer::Is(n) => after_first(verb, time, n as u16, text::after_field(s)),
+    let tab = text::find(s, b'\t');
+    match Rank::read_identity(field_to(s, tab)) {
+        NumberAnswer::Is(n) => after_first(verb, time, n as u16, field_from(s, tab)),
         NumberAnswer::Refused(k) => DayLine::Wrong(k),
     }
 }
@@ -183,11 +207,12 @@ fn fields_of(verb: Verb) -> usize
 fn from_verb(time: &[u8], s: &[u8], count: usize) -> DayLine
     ensures { λ r. ⌜ ofDayLine r ≡ entryNamed (verbNamed (field (now (s .entry)) 0)) (now (time .entry)) (afterField (now (s .entry))) count ⌝ }
 {
-    match verb_named(text::first_field(s)) {
+    let tab = text::find(s, b'\t');
+    match verb_named(field_to(s, tab)) {
         Named::Called(verb) => counted(
             count,
             fields_of(verb),
-            read_entry(verb, time, text::after_field(s)),
+            read_entry(verb, time, field_from(s, tab)),
         ),
         Named::Unknown => DayLine::Wrong(Refusal::Form),
     }
@@ -197,8 +222,9 @@ fn read_body(s: &[u8]) -> DayLine
     ensures { λ r. ⌜ ofDayLine r ≡ bodyRead (now (s .entry)) ⌝ }
 {
     let count = text::field_count(s);
-    let first = text::first_field(s);
-    let rest = text::after_field(s);
+    let tab = text::find(s, b'\t');
+    let first = field_to(s, tab);
+    let rest = field_from(s, tab);
     if text::same(first, b"period") {
         return counted(count, 2, read_period(rest));
     }

@@ -1,15 +1,3 @@
-pub mod Taking
-pub mod Lines
-pub mod Remaining
 pub mod Making
-pub mod Calling
-pub mod Placing
 pub mod Staging
-pub mod Moving
-pub mod Finishing
-pub mod Laws
-pub mod Calming
-pub mod Sizing
-pub mod Bounding
-pub mod Turning
-pub mod Spending
+pub mod Pairing

@@ -1,119 +1,125 @@
 -- A feed by its stage, and what its functions make together. Assumes nothing.
+use mathlib.Core.Bool.{Bool}
 use mathlib.Core.Path.{_≡_, refl, sym, ap, subst, _∙_}
-use mathlib.Core.List.{List, []}
+use mathlib.Core.List.{List, [], _∷_}
 use Prim.Native.Nat.{ℕ, _≤_}
 use native.Mathlib.Omega.{arith}
-use borrow.Author.Tests.{eq-eqb, ne-eqb, lt-ltb, le-ltb}
-use lib.Dec.{ltb}
-use lib.ListN.{length, take}
-use lib.Seq.{take-all}
-use Rattle.lists.specs.Choice.{choose}
-use Rattle.lists.proofs.Cases.{equal, less, on, chosen, other}
+use borrow.Author.Tests.{eq-eqb, ne-eqb, le-leb}
+use lib.ListN.{getD}
+use Rattle.lists.proofs.Cases.{equal, on, chosen, other, and-true}
 use Rattle.refusal.specs.declared.Refusal.{Refusal}
-use Rattle.refusal.specs.declared.Refusal.the-variants.{Place}
 use Rattle.refusal.specs.declared.Verdict.{Verdict}
 use Rattle.refusal.specs.declared.Verdict.the-variants.{Accepted, Refused}
-use Rattle.refusal.specs.Answer.{ofVerdict, numberOf}
+use Rattle.refusal.specs.Answer.{Answer, accepted, ofVerdict, numberOf}
+use Rattle.refusal.proofs.Answers.{number-some}
 use Rattle.text.specs.declared.Written.{Written}
-use Rattle.text.specs.declared.Written.the-variants as written
-use Rattle.text.specs.Write.{Writes}
+use Rattle.text.specs.declared.Written.the-variants.{To}
+use Rattle.server.specs.declared.Period.{Period}
+use Rattle.server.specs.declared.PeriodAnswer.{PeriodAnswer}
+use Rattle.server.specs.declared.PeriodAnswer.the-variants.{Is, Refused as Declined}
+use Rattle.server.specs.declared.Server.{Server}
 use Rattle.server.specs.declared.Verb.{Verb}
+use Rattle.server.specs.Period.{leastPeriod, greatestPeriod, ofPeriod, takePeriod}
 use Rattle.group.specs.declared.State.{State}
 use Rattle.group.specs.declared.Table.{Table}
-use Rattle.group.specs.Table.{addRefusal, added, fresh}
-use Rattle.group.specs.Answers.{Gives}
+use Rattle.group.specs.declared.Added.{Added}
+use Rattle.group.specs.Table.{addRefusal, fresh}
+use Rattle.group.specs.Answers.{Adds, Gives}
 use Rattle.group.specs.Verbs.{verbOutcome}
-use Rattle.channel.specs.declared.Channel.{Channel}
-use Rattle.channel.specs.declared.Opened.{Opened}
-use Rattle.channel.specs.Answers.{state, Opens}
-use Rattle.day.specs.Day.{Day, on as during, atPeriod, atServers, atEntries, atClose, refusal, addEffect, callEffect}
+use Rattle.frames.specs.Answers.{stateOf}
+use Rattle.day.specs.Day.{Day, on as during, atServers, atEntries, tableOf, addEffect, callEffect}
+use Rattle.feeding.specs.Fed.{Fed}
+use Rattle.feeding.specs.Moves.{Move, nextLine, stopping, going, effectMove, placeRefusal}
+use Rattle.feeding.proofs.Calling.{writes-not, gives-written, gives-channel, gives-same, gives-kept, call-allowed, call-short, call-refused}
 use Rattle.feed.specs.declared.Stage.{Stage}
+use Rattle.feed.specs.declared.Stage.the-variants.{AtPeriod, AtServers, AtEntries, AtClose}
 use Rattle.feed.specs.declared.Feed.{Feed}
 use Rattle.feed.specs.declared.Step.{Step}
-use Rattle.feed.specs.Fed.{Fed, enough}
-use Rattle.feed.specs.Moves.{Move, nextLine, stopping, going, effectMove, placeRefusal}
-use Rattle.feed.specs.Answers.{dayOf, fedOf, Makes}
-use Rattle.feed.specs.Steps.{MakesQuietly, OpensDay, RefusesCall}
-use Rattle.feed.proofs.Making.{it-does-not, makes-as}
-use Rattle.feed.proofs.Calling.{writes-not, gives-same, call-short, call-refused}
+use Rattle.feed.specs.Answers.{dayOf, channelOf, fedIn, fedOf, Makes}
+use Rattle.feed.specs.Steps.{turned, refusing, RefusesCall}
+use Rattle.feed.proofs.Making.{makes-written, makes-refused, makes-as}
 
 -- ---- stages
 
+-- what holds of the day in its stage holds of the feed's day
 module _ (x : Feed) {g : Stage} (e : x .stage ≡ g) where
-  day-at : dayOf g (x .table) (x .period) (x .channel) ≡ fedOf x .day
-  day-at = ap (λ (s : Stage). dayOf s (x .table) (x .period) (x .channel)) (sym e)
-
-  -- what is said of the day in that stage holds of the feed's day
   pub makes-at :
-      {d : List ℕ} {r : Step} {d′ : List ℕ} (m : Day → Move) → Makes (fedOf x) (m (dayOf g (x .table) (x .period) (x .channel))) d r d′ →
-      Makes (fedOf x) (m (fedOf x .day)) d r d′
-  makes-at m q = makes-as (ap m day-at) q
+      (l w : List ℕ) (k : List Bool) {d : List ℕ} {p : Written} {f′ : Fed} {d′ : List ℕ} (m : Day → Move) → Makes (fedOf x l w k) (m (dayOf g (channelOf x w k))) d p f′ d′ →
+      Makes (fedOf x l w k) (m (fedOf x l w k .day)) d p f′ d′
+  makes-at l w k m q = makes-as (ap (λ (s : Stage). m (dayOf s (channelOf x w k))) (sym e)) q
 
-  pub opens-at : {r : Opened} → OpensDay (dayOf g (x .table) (x .period) (x .channel)) r → OpensDay (fedOf x .day) r
-  opens-at {r} q = subst (λ (d : Day). OpensDay d r) day-at q
+  pub place-at : (c : State) {n : ℕ} → n ≡ placeRefusal (dayOf g c .stage) (dayOf g c .channel) → n ≡ placeRefusal (dayOf (x .stage) c .stage) (dayOf (x .stage) c .channel)
+  place-at c q = q ∙ ap (λ (s : Stage). placeRefusal (dayOf s c .stage) (dayOf s c .channel)) (sym e)
 
--- ---- nothing written
+-- where entries may come there is a channel
+pub open-channel : (g : Stage) (c : State) → placeRefusal (dayOf g c .stage) (dayOf g c .channel) ≡ 0 → c ≡ dayOf g c .channel
+unfolding placeRefusal
+open-channel AtPeriod c e = absurd (omega arith)
+open-channel AtServers c e = refl
+open-channel AtEntries c e = refl
+open-channel AtClose c e = refl
 
-pub quietly : {f : Fed} {d : Day} {x : Feed} {r : Step} → r ≡ record { written = written.To 0; feed = x } → fedOf x ≡ nextLine f d → MakesQuietly f d r
-quietly q e = record { written = ap (λ (s : Step). s .written) q; fed = ap (λ (s : Step). fedOf (s .feed)) q ∙ e }
+-- where servers and links are the same, so is what a feed stands for
+pub same-fed : (x : Feed) (l : List ℕ) {s s′ : List Server} {k k′ : List Bool} {t u : ℕ} {p q : Period} → stateOf t p s′ k′ ≡ stateOf u q s k → fedIn x l (stateOf (x .frame) (x .period) s′ k′) ≡ fedIn x l (stateOf (x .frame) (x .period) s k)
+same-fed x l e = ap (λ (c : State). fedIn x l (stateOf (x .frame) (x .period) (c .servers) (c .whole))) e
+
+-- ---- a period in its range
+
+in-range : {n : ℕ} → leastPeriod ≤ n → n ≤ greatestPeriod → takePeriod n ≡ accepted (n ∷ [])
+unfolding takePeriod
+in-range {n} lo hi = chosen _ (and-true (le-leb leastPeriod n lo) (le-leb n greatestPeriod hi))
+
+module _ {n : ℕ} (lo : leastPeriod ≤ n) (hi : n ≤ greatestPeriod) (r : PeriodAnswer) (q : ofPeriod r ≡ takePeriod n) where
+  pub period-is : {p : Period} → r ≡ Is p → p .frames ≡ n
+  period-is e = ap (λ (a : Answer). getD (a .values) 0 0) (sym (ap ofPeriod e) ∙ q ∙ in-range lo hi)
+
+  pub period-taken : {k : Refusal} → r ≡ Declined k → ⊥
+  period-taken {k} e = let z : numberOf k ≡ 0 = ap (λ (a : Answer). a .number) (sym (ap ofPeriod e) ∙ q ∙ in-range lo hi) in omega (arith, number-some k)
 
 -- ---- a server more
 
-module _ (f : Fed) (t : Table) (n i p : ℕ) where
-  pub add-so : addRefusal t i ≡ 0 → going f [] (during atServers (fresh (added t i p) n)) ≡ effectMove f (addEffect (fresh t n) i p)
+module _ (f : Fed) (c : State) (i p : ℕ) {s : List Server} (e : s ≡ c .servers) {r : Added} (q₀ : Adds (record { servers = s }) i p r) where
+  q : Adds (tableOf c) i p r
+  q = subst (λ (l : List Server). Adds (record { servers = l }) i p r) e q₀
+
+  pub add-so : r .verdict ≡ Accepted → going f [] (during atServers (fresh (r .table) (c .period .frames))) ≡ effectMove f (addEffect c i p)
   unfolding addEffect
-  add-so e = ap (effectMove f) (sym (chosen _ (eq-eqb (addRefusal t i) 0 e)))
+  add-so v =
+      ap (λ (t : Table). going f [] (during atServers (fresh t (c .period .frames)))) (q .table)
+      ∙ ap (effectMove f) (sym (chosen _ (eq-eqb (addRefusal (tableOf c) i) 0 (sym (q .number) ∙ ap ofVerdict v))))
 
-  pub add-not : {k : ℕ} → addRefusal t i ≡ k → (k ≡ 0 → ⊥) → stopping f k ≡ effectMove f (addEffect (fresh t n) i p)
+  pub add-not : {k : Refusal} → r .verdict ≡ Refused k → stopping f (numberOf k) ≡ effectMove f (addEffect c i p)
   unfolding addEffect
-  add-not {k} e h = sym (ap (effectMove f) (other _ (ne-eqb (addRefusal t i) 0 (λ z. h (sym e ∙ z)))) ∙ ap (stopping f) e)
+  add-not {k} v =
+      let is : addRefusal (tableOf c) i ≡ numberOf k = sym (q .number) ∙ ap ofVerdict v in
+      sym (ap (effectMove f) (other _ (ne-eqb (addRefusal (tableOf c) i) 0 (λ z. omega (arith, is, number-some k)))) ∙ ap (stopping f) is)
 
--- ---- the channel for entries
+-- ---- a verb
 
-pub opens-not : {d : Day} {c : Channel} {r : Opened} → placeRefusal (d .stage) (d .channel) ≡ 4 → r ≡ record { verdict = Refused Place; channel = c } → OpensDay d r
-opens-not e q = record { number = ap (λ (o : Opened). ofVerdict (o .verdict)) q ∙ sym e; channel = λ z. absurd (omega (arith, sym e ∙ z)) }
+module _ (x : Feed) (l w : List ℕ) (k : List Bool) (v : Verb) (a b : ℕ) {d : List ℕ} {u : Verdict} {n : ℕ} {s′ : List Server} {k′ : List Bool} {d₁ : List ℕ}
+    (g : Gives (channelOf x w k) (verbOutcome (channelOf x w k) v a b) d u n (stateOf (x .frame) (x .period) s′ k′) d₁) where
+  abbrev f : Fed
+  f = fedOf x l w k
 
-pub opens-so : {d : Day} {c : Channel} {r : Opened} → placeRefusal (d .stage) (d .channel) ≡ 0 → state c ≡ d .channel → r ≡ record { verdict = Accepted; channel = c } → OpensDay d r
-opens-so e s q = record { number = ap (λ (o : Opened). ofVerdict (o .verdict)) q ∙ sym e; channel = λ z. ap (λ (o : Opened). state (o .channel)) q ∙ s }
+  abbrev c : State
+  c = channelOf x w k
 
-pub opens-fresh : {t : Table} {n : ℕ} {r : Opened} → Opens t n r → OpensDay (during atServers (fresh t n)) r
-unfolding placeRefusal
-opens-fresh o = record { number = o .number; channel = λ z. o .channel ∙ chosen _ (eq-eqb _ 0 z) }
+  -- what a feed stands for after it
+  abbrev then : Feed → Fed
+  then y = fedIn y l (stateOf (y .frame) (y .period) s′ k′)
 
-pub no-place : (c : State) → placeRefusal atPeriod c ≡ 4
-unfolding placeRefusal
-no-place c = refl
+  pub call-so : (y : Feed) → u ≡ Accepted → y ≡ turned x AtEntries → Makes f (effectMove f (callEffect [] c v a b)) d (To n) (then y) d₁
+  call-so y e q =
+      makes-as (ap (effectMove f) (sym (call-allowed c v a b g e)))
+      (makes-written (gives-written g e) (ap then q ∙ ap (λ (z : State). nextLine f (during atEntries z)) (gives-channel g e)))
 
-pub closed-place : (c : State) → placeRefusal atClose c ≡ 4
-unfolding placeRefusal
-closed-place c = refl
-
-pub open-place : (c : State) → placeRefusal atEntries c ≡ 0
-unfolding placeRefusal
-open-place c = refl
-
--- ---- a verb that is refused
-
-pub call-not :
-    {f : Fed} (c : State) (v : Verb) (a b : ℕ) {d : List ℕ} {w : Verdict} {n : ℕ} {x : State} {d₁ : List ℕ} {k : Refusal} {r : Step} {d₂ : List ℕ} →
-    Gives c (verbOutcome c v a b) d w n x d₁ → w ≡ Refused k → RefusesCall f c a k d₁ r d₂ → Makes f (effectMove f (callEffect [] c v a b)) d r d₂
-call-not {f} c v a b {d} {w} {n} {x} {d₁} {k} {r} {d₂} g e q =
-    on (equal (numberOf k) 9)
-    (λ z.
-    let s = call-short c v a b g e z in
-    let p = q .short z in
-    let not : Writes d 0 (verbOutcome c v a b .lines) (written.Refused k) d₂ = writes-not (s .1) z (p .2 ∙ gives-same g e) in
-    makes-as (ap (effectMove f) (sym (s .0)))
-    (record {
-      out = subst (λ (y : Written). Writes d 0 (verbOutcome c v a b .lines) y d₂) (sym (p .0)) not;
-      fed = p .1 ∙ sym (other _ (it-does-not not));
-    }))
-    (λ z. makes-as (ap (effectMove f) (sym (call-refused c v a b g e z))) (subst (λ (y : List ℕ). Makes f (going f (refusal c a (numberOf k)) (during atEntries c)) y r d₂) (gives-same g e) (q .long z)))
-
--- ---- the bytes of the line
-
-pub shorter-take : (l : List ℕ) (n : ℕ) {m : ℕ} → length l ≡ enough → m ≡ choose (ltb n enough) n enough → (m ≤ enough) × (take m l ≡ take n l)
-shorter-take l n {m} long e =
-    on (less n enough)
-    (λ h. let z : m ≡ n = e ∙ chosen _ (lt-ltb n enough h) in (omega arith, ap (λ (i : ℕ). take i l) z))
-    (λ h. let z : m ≡ enough = e ∙ other _ (le-ltb n enough h) in (omega arith, take-all m l (omega arith) ∙ sym (take-all n l (omega arith))))
+  pub call-not : {j : Refusal} {r : Step} {d₂ : List ℕ} → u ≡ Refused j → RefusesCall x a j d₁ r d₂ → Makes f (effectMove f (callEffect [] c v a b)) d (r .written) (then (r .feed)) d₂
+  call-not {j} {r} {d₂} e q =
+      on (equal (numberOf j) 9)
+      (λ z.
+      let s = call-short c v a b g e z in
+      let p = q .short z in
+      rw (p .0, p .1) (makes-as (ap (effectMove f) (sym (s .0))) (makes-refused (writes-not (s .1) z (p .2 ∙ gives-same g e)) (same-fed x l (gives-kept g e)))))
+      (λ z.
+      rw (same-fed (r .feed) l (gives-kept g e))
+      (makes-as (ap (effectMove f) (sym (call-refused c v a b g e z))) (subst (λ (y : List ℕ). Makes f (refusing a (numberOf j) f c) y (r .written) (fedOf (r .feed) l w k) d₂) (gives-same g e) (q .long z w k l))))

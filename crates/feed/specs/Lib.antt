@@ -1,6 +1,2 @@
-pub mod Fed
-pub mod Moves
-pub mod Bound
-pub mod Laws
 pub mod Answers
 pub mod Steps

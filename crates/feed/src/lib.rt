@@ -1,33 +1,33 @@
-// A day fed in pieces, and its sheet line by line.
-use channel::Channel;
-use channel::Opened;
+// A day fed in pieces, and its sheet line by line. The line under way, the servers' numbers and the links are lent, and changed in place.
 use dayline::DayLine;
+use group::State;
 use group::Table;
 use refusal::Refusal;
 use refusal::Verdict;
+use server::Period;
+use server::PeriodAnswer;
+use server::Server;
 use server::Verb;
 use text::Written;
 ghost use mathlib.Core.Path.{_≡_};
 ghost use mathlib.Core.List.{[]};
-ghost use Prim.Native.Nat.{_+_, _-_, _≤_, _<_};
-ghost use lib.Dec.{ltb, leb};
+ghost use Prim.Native.Nat.{_-_, _≤_, _<_};
 ghost use lib.ListN.{length, take};
-ghost use Rattle.lists.specs.Choice.{choose};
-ghost use Rattle.refusal.specs.Answer.{numberOf};
+ghost use Rattle.refusal.specs.Answer.{ofVerdict, numberOf};
 ghost use Rattle.text.specs.Write.{Writes};
 ghost use Rattle.text.specs.Steps.{Pieces};
-ghost use Rattle.timecode.specs.Label.{dayLength};
-ghost use Rattle.group.specs.Table.{empty, fresh};
-ghost use Rattle.channel.specs.Answers.{state};
+ghost use Rattle.server.specs.Period.{leastPeriod, greatestPeriod, beatLimit};
+ghost use Rattle.group.specs.Table.{empty, freshRefusal, fresh};
+ghost use Rattle.frames.specs.Words.{serversOf};
 ghost use Rattle.day.specs.Read.{entry, end, lineRead};
-ghost use Rattle.day.specs.Day.{on, atServers, atEntries, atClose, stop, refusal, periodEffect, addEffect, serverEffect, callEffect, entryEffect, endEffect, lastLine, beyond};
-ghost use Rattle.day.specs.Sheet.{inputRefusal, finish, sheet};
+ghost use Rattle.day.specs.Day.{on, atServers, stop, periodEffect, addEffect, serverEffect, callEffect, entryEffect, endEffect, lastLine, beyond};
+ghost use Rattle.day.specs.Sheet.{inputRefusal, finish};
 ghost use Rattle.dayline.specs.DayLine.{ofDayLine};
-ghost use Rattle.feed.specs.Fed.{beginning, enough, wholeLine, closed, waits};
-ghost use Rattle.feed.specs.Moves.{ended, nextLine, stopping, going, effectMove, framesNow, advancing, placedMove, lineMove, stepMove, lastMove};
-ghost use Rattle.feed.specs.Bound.{stepBytes};
-ghost use Rattle.feed.specs.Answers.{dayOf, fedOf, Begins, Takes, Makes};
-ghost use Rattle.feed.specs.Steps.{Puts, MakesQuietly, Over, OpensDay, RefusesCall, onMove, Sized, Spends, writtenBytes, Turns};
+ghost use Rattle.feeding.specs.Fed.{wholeLine};
+ghost use Rattle.feeding.specs.Moves.{ended, stopping, going, effectMove, framesNow, advancing, placedMove, lineMove, stepMove, stepsMove};
+ghost use Rattle.feeding.specs.Steps.{onMove, Sized};
+ghost use Rattle.feed.specs.Answers.{fedOf, Begins, Waits, IsOver, TakesTo, Makes, Finishes};
+ghost use Rattle.feed.specs.Steps.{Fills, Does, Keeps, Becomes, IsOf, Follows, turned, Puts, refusing, RefusesCall, Opens};
 
 // Which lines have come.
 pub enum Stage {
@@ -37,16 +37,14 @@ pub enum Stage {
     AtClose,
 }
 
-// A day so far: whether its sheet is over; the line under way, its number and how many bytes of it are there; the table and the period until entries begin, the channel from then on.
+// Where a day stands: whether its sheet is over; the number of the line under way, and how many bytes of it are there; which lines have come; the frame and the period. The rest is lent: the line's bytes, the servers as numbers (`frames`), the links.
 pub struct Feed {
     over: bool,
     number: u32,
-    line: [u8; 65],
     length: usize,
     stage: Stage,
-    table: Table,
-    period: u32,
-    channel: Channel,
+    frame: u32,
+    period: Period,
 }
 
 // How many bytes of a piece were taken.
@@ -55,7 +53,7 @@ pub struct Taken {
     pub feed: Feed,
 }
 
-// How many bytes were written; 9 where the slice is too short, and then the same feed.
+// How many bytes were written, and the feed afterwards; 9 where the slice is too short, and then the feed as it was, or for `begin` one that has printed no header.
 pub struct Step {
     pub written: Written,
     pub feed: Feed,
@@ -65,85 +63,83 @@ impl Feed {
     // So many bytes of a line are looked at.
     const ENOUGH: usize = 65;
 
-    // The header's bytes.
-    const HEADER: usize = 17;
+    // Lines of a day, at most.
+    pub const LINES: u32 = 65535;
 
-    fn new() -> Feed
-        ensures { λ r. ⌜ fedOf r ≡ beginning ⌝ }
-    {
-        let table = Table::empty();
-        let opened = Channel::fresh(table, 0);
-        let channel = opened.channel;
-        let line = [0; 65];
-        Feed {
-            over: false,
-            number: 1,
-            line,
-            length: 0,
-            stage: Stage::AtPeriod,
-            table,
-            period: 0,
-            channel,
-        }
-    }
+    // So many bytes are enough for every step of a feed that began, took and stepped: no frame prints more.
+    pub const STEP: usize = 237600;
 
     // The header, and the day before its first line; 9.
     pub fn begin(out: &mut [u8]) -> Step
         ensures { λ r. ⌜ Begins (now (out .entry)) r (now (out .exit)) ⌝ }
     {
         let written = text::write_bytes(out, 0, b"time\tserver\twhat\n");
-        let feed = Feed::new();
+        let period = Period::shortest();
+        let feed = Feed {
+            over: false,
+            number: 1,
+            length: 0,
+            stage: Stage::AtPeriod,
+            frame: 0,
+            period,
+        };
         Step { written, feed }
     }
 }
 
 // ---- bytes
 
-// Whether all that is looked at of a line is there, of which n bytes are.
-fn is_whole(line: [u8; 65], n: usize) -> bool
-    ensures { λ r. ⌜ r ≡ wholeLine (take n line) ⌝ }
+// How many of the first n bytes of a slice there are.
+fn present(line: &[u8], n: usize) -> usize
+    ensures { λ r. ⌜ r ≡ length (take n (now (line .entry))) ⌝ }
 {
-    if n >= Feed::ENOUGH {
+    let all = line.len();
+    if n < all { n } else { all }
+}
+
+// Whether all that is looked at of a line is there, of which n bytes are.
+fn is_whole(line: &[u8], n: usize) -> bool
+    ensures { λ r. ⌜ r ≡ wholeLine (take n (now (line .entry))) ⌝ }
+{
+    let m = present(line, n);
+    if m >= Feed::ENOUGH {
         return true;
     }
-    if n == 0 {
+    if m == 0 {
         return false;
     }
-    line[n - 1] == b'\n'
+    line[m - 1] == b'\n'
+}
+
+// A line with bytes of a piece in it.
+struct Filled {
+    line: [u8; 65],
+    used: usize,
+    feed: Feed,
 }
 
 impl Feed {
-    // No byte is taken.
-    fn closed(self) -> bool
-        ensures { λ r. ⌜ r ≡ closed (fedOf self) ⌝ }
-    {
-        let line = self.line;
-        self.over | is_whole(line, self.length)
-    }
-
     // Whether a whole line is to be done.
-    pub fn waits(self) -> bool
-        ensures { λ r. ⌜ r ≡ waits (fedOf self) ⌝ }
+    pub fn waits(self, line: &[u8; 65]) -> bool
+        ensures { λ r. ⌜ Waits self (now (line .entry)) r ⌝ }
     {
-        let line = self.line;
         !self.over & is_whole(line, self.length)
     }
 
     // Whether the sheet is over.
     pub fn over(self) -> bool
-        ensures { λ r. ⌜ r ≡ fedOf self .over ⌝ }
+        ensures { λ r. ⌜ IsOver self r ⌝ }
     {
         self.over
     }
 
-    // Bytes of a piece, up to the line feed of the line under way or until it is too long; none where a whole line is to be done, or the sheet is over.
-    pub fn take(self, piece: &[u8]) -> Taken
-        ensures { λ r. ⌜ Takes (fedOf self) (now (piece .entry)) r ⌝ }
+    fn fill(self, bytes: [u8; 65], piece: &[u8]) -> Filled
+        ensures { λ r. ⌜ Fills self bytes (now (piece .entry)) r ⌝ }
     {
-        let mut line = self.line;
+        let mut line = bytes;
         let mut n = self.length;
         let mut i: usize = 0;
-        let mut shut = self.closed();
+        let mut shut = self.over | is_whole(&bytes, n);
         while (i < piece.len()) & !shut {
             let x = piece[i];
             line[n] = x;
@@ -152,9 +148,26 @@ impl Feed {
             shut = (n >= Feed::ENOUGH) | (x == b'\n');
         }
         let mut feed = self;
-        feed.line = line;
         feed.length = n;
-        Taken { used: i, feed }
+        Filled {
+            line,
+            used: i,
+            feed,
+        }
+    }
+
+    // Bytes of a piece, up to the line feed of the line under way or until it is too long; none where a whole line is to be done, or the sheet is over.
+    pub fn take(self, line: &mut [u8; 65], piece: &[u8]) -> Taken
+        ensures { λ r. ⌜ TakesTo self (now (line .entry)) (now (piece .entry)) r (now (line .exit)) ⌝ }
+    {
+        let filled = self.fill(*line, piece);
+        let after = filled.line;
+        *line = after;
+        let feed = filled.feed;
+        Taken {
+            used: filled.used,
+            feed,
+        }
     }
 }
 
@@ -191,16 +204,6 @@ fn write_refusal(out: &mut [u8], number: u32, refusal: Refusal) -> Written
 // ---- what a feed becomes
 
 impl Feed {
-    // Nothing is written.
-    fn quiet(self) -> Step
-        ensures { λ r. ⌜ r ≡ record { written = Written.To 0; feed = self } ⌝ }
-    {
-        Step {
-            written: Written::To(0),
-            feed: self,
-        }
-    }
-
     // The feed after a write, or the same one where that was refused.
     fn put(self, after: Feed, written: Written) -> Step
         ensures { λ r. ⌜ Puts self after written r ⌝ }
@@ -217,83 +220,29 @@ impl Feed {
         }
     }
 
-    fn ended(self) -> Feed
-        ensures { λ r. ⌜ fedOf r ≡ ended (fedOf self) ⌝ }
-    {
-        let mut next = self;
-        next.over = true;
-        next
-    }
-
     // The line is refused, and the sheet over; 9.
     fn stop(self, k: Refusal, out: &mut [u8]) -> Step
-        ensures { λ r. ⌜ Makes (fedOf self) (stopping (fedOf self) (numberOf k)) (now (out .entry)) r (now (out .exit)) ⌝ }
+        ensures { λ r. ⌜ Keeps self (λ f c. stopping f (numberOf k)) (now (out .entry)) r (now (out .exit)) ⌝ }
     {
         let written = write_refusal(out, self.number, k);
-        let after = self.ended();
+        let mut after = self;
+        after.over = true;
         self.put(after, written)
     }
 
     // The next line.
-    fn turned(self, stage: Stage, table: Table, period: u32, channel: Channel) -> Feed
+    fn turned(self, stage: Stage) -> Feed
         requires { ⌜ self .number ≤ lastLine ⌝ }
-        ensures { λ r. ⌜ fedOf r ≡ nextLine (fedOf self) (dayOf stage table period channel) ⌝ }
+        ensures { λ r. ⌜ r ≡ turned self stage ⌝ }
     {
-        let line = self.line;
+        let period = self.period;
         Feed {
             over: self.over,
             number: self.number + 1,
-            line,
             length: 0,
             stage,
-            table,
+            frame: self.frame,
             period,
-            channel,
-        }
-    }
-
-    // The next line, after a line before the entries.
-    fn listed(self, table: Table, period: u32) -> Feed
-        requires { ⌜ self .number ≤ lastLine ⌝ }
-        ensures { λ r. ⌜ fedOf r ≡ nextLine (fedOf self) (on atServers (fresh table period)) ⌝ }
-    {
-        let channel = self.channel;
-        self.turned(Stage::AtServers, table, period, channel)
-    }
-
-    // The next line, after an entry.
-    fn entered(self, channel: Channel) -> Feed
-        requires { ⌜ self .number ≤ lastLine ⌝ }
-        ensures { λ r. ⌜ fedOf r ≡ nextLine (fedOf self) (on atEntries (state channel)) ⌝ }
-    {
-        let table = self.table;
-        self.turned(Stage::AtEntries, table, self.period, channel)
-    }
-
-    // The next line, after `end`.
-    fn shut(self, channel: Channel) -> Feed
-        requires { ⌜ self .number ≤ lastLine ⌝ }
-        ensures { λ r. ⌜ fedOf r ≡ nextLine (fedOf self) (on atClose (state channel)) ⌝ }
-    {
-        let table = self.table;
-        self.turned(Stage::AtClose, table, self.period, channel)
-    }
-
-    // The same line, on a channel further on.
-    fn on(self, channel: Channel) -> Feed
-        ensures { λ r. ⌜ fedOf r ≡ record { over = self .over; number = self .number; line = fedOf self .line; day = on atEntries (state channel) } ⌝ }
-    {
-        let line = self.line;
-        let table = self.table;
-        Feed {
-            over: self.over,
-            number: self.number,
-            line,
-            length: self.length,
-            stage: Stage::AtEntries,
-            table,
-            period: self.period,
-            channel,
         }
     }
 }
@@ -301,23 +250,60 @@ impl Feed {
 // ---- lines before the entries
 
 impl Feed {
-    fn first_line(self, period: u32) -> Step
+    // The next line, on the fresh channel of a table.
+    fn listed(
+        self,
+        words: &mut [u32; 80],
+        whole: &mut [bool; 256],
+        servers: [Server; 16],
+        period: Period,
+    ) -> Step
         requires { ⌜ self .number ≤ lastLine ⌝ }
-        ensures { λ r. ⌜ MakesQuietly (fedOf self) (on atServers (fresh empty period)) r ⌝ }
+        ensures { λ r. ⌜ Becomes self (now (words .entry)) (now (whole .entry)) (λ f c. going f [] (on atServers (fresh (record { servers = servers }) (beatLimit period)))) r (now (words .exit)) (now (whole .exit)) ⌝ }
+    {
+        *words = frames::words_of(servers);
+        *whole = [true; 256];
+        let mut next = self.turned(Stage::AtServers);
+        next.frame = 0;
+        next.period = period;
+        Step {
+            written: Written::To(0),
+            feed: next,
+        }
+    }
+
+    fn first_line(
+        self,
+        words: &mut [u32; 80],
+        whole: &mut [bool; 256],
+        period: u32,
+        out: &mut [u8],
+    ) -> Step
+        requires { ⌜ (self .number ≤ lastLine) × (leastPeriod ≤ period) × (period ≤ greatestPeriod) ⌝ }
+        ensures { λ r. ⌜ Does self (now (words .entry)) (now (whole .entry)) (λ f c. going f [] (on atServers (fresh empty period))) (now (out .entry)) r (now (words .exit)) (now (whole .exit)) (now (out .exit)) ⌝ }
     {
         let table = Table::empty();
-        let next = self.listed(table, period);
-        next.quiet()
+        let servers = table.servers;
+        match Period::of(period) {
+            PeriodAnswer::Is(p) => self.listed(words, whole, servers, p),
+            PeriodAnswer::Refused(k) => self.stop(k, out),
+        }
     }
 
     // `period`: 4.
-    fn set_period(self, period: u32, out: &mut [u8]) -> Step
-        requires { ⌜ self .number ≤ lastLine ⌝ }
-        ensures { λ r. ⌜ Makes (fedOf self) (effectMove (fedOf self) (periodEffect (fedOf self .day .stage) period)) (now (out .entry)) r (now (out .exit)) ⌝ }
+    fn set_period(
+        self,
+        words: &mut [u32; 80],
+        whole: &mut [bool; 256],
+        period: u32,
+        out: &mut [u8],
+    ) -> Step
+        requires { ⌜ (self .number ≤ lastLine) × (leastPeriod ≤ period) × (period ≤ greatestPeriod) ⌝ }
+        ensures { λ r. ⌜ Does self (now (words .entry)) (now (whole .entry)) (λ f c. effectMove f (periodEffect (f .day .stage) period)) (now (out .entry)) r (now (words .exit)) (now (whole .exit)) (now (out .exit)) ⌝ }
     {
         let stage = self.stage;
         match stage {
-            Stage::AtPeriod => self.first_line(period),
+            Stage::AtPeriod => self.first_line(words, whole, period, out),
             Stage::AtServers => self.stop(Refusal::Place, out),
             Stage::AtEntries => self.stop(Refusal::Place, out),
             Stage::AtClose => self.stop(Refusal::Place, out),
@@ -325,32 +311,46 @@ impl Feed {
     }
 
     // 5, 6.
-    fn add(self, identity: u16, priority: u8, out: &mut [u8]) -> Step
+    fn add(
+        self,
+        words: &mut [u32; 80],
+        whole: &mut [bool; 256],
+        identity: u16,
+        priority: u8,
+        out: &mut [u8],
+    ) -> Step
         requires { ⌜ self .number ≤ lastLine ⌝ }
-        ensures { λ r. ⌜ Makes (fedOf self) (effectMove (fedOf self) (addEffect (fresh (self .table) (self .period)) identity priority)) (now (out .entry)) r (now (out .exit)) ⌝ }
+        ensures { λ r. ⌜ Does self (now (words .entry)) (now (whole .entry)) (λ f c. effectMove f (addEffect c identity priority)) (now (out .entry)) r (now (words .exit)) (now (whole .exit)) (now (out .exit)) ⌝ }
     {
-        let table = self.table;
+        let servers = frames::servers_of(words);
+        let table = Table { servers };
         let added = table.add(identity, priority);
         let verdict = added.verdict;
         let longer = added.table;
+        let more = longer.servers;
+        let period = self.period;
         match verdict {
-            Verdict::Accepted => {
-                let next = self.listed(longer, self.period);
-                next.quiet()
-            }
+            Verdict::Accepted => self.listed(words, whole, more, period),
             Verdict::Refused(k) => self.stop(k, out),
         }
     }
 
     // `server`: 4.
-    fn add_server(self, identity: u16, priority: u8, out: &mut [u8]) -> Step
+    fn add_server(
+        self,
+        words: &mut [u32; 80],
+        whole: &mut [bool; 256],
+        identity: u16,
+        priority: u8,
+        out: &mut [u8],
+    ) -> Step
         requires { ⌜ self .number ≤ lastLine ⌝ }
-        ensures { λ r. ⌜ Makes (fedOf self) (effectMove (fedOf self) (serverEffect (fedOf self .day .stage) (fedOf self .day .channel) identity priority)) (now (out .entry)) r (now (out .exit)) ⌝ }
+        ensures { λ r. ⌜ Does self (now (words .entry)) (now (whole .entry)) (λ f c. effectMove f (serverEffect (f .day .stage) (f .day .channel) identity priority)) (now (out .entry)) r (now (words .exit)) (now (whole .exit)) (now (out .exit)) ⌝ }
     {
         let stage = self.stage;
         match stage {
             Stage::AtPeriod => self.stop(Refusal::Place, out),
-            Stage::AtServers => self.add(identity, priority, out),
+            Stage::AtServers => self.add(words, whole, identity, priority, out),
             Stage::AtEntries => self.stop(Refusal::Place, out),
             Stage::AtClose => self.stop(Refusal::Place, out),
         }
@@ -360,63 +360,63 @@ impl Feed {
 // ---- entries and `end`
 
 impl Feed {
-    fn unopened(self) -> Opened
-        ensures { λ r. ⌜ r ≡ record { verdict = Verdict.Refused Refusal.Place; channel = self .channel } ⌝ }
+    // 6, 7.
+    fn complete(self, words: &[u32; 80]) -> Verdict
+        ensures { λ r. ⌜ ofVerdict r ≡ freshRefusal (record { servers = serversOf (now (words .entry)) }) (beatLimit (self .period)) ⌝ }
     {
-        let channel = self.channel;
-        Opened {
-            verdict: Verdict::Refused(Refusal::Place),
-            channel,
-        }
+        let servers = frames::servers_of(words);
+        let table = Table { servers };
+        let period = self.period;
+        let opened = State::fresh(table, period.beat_limit());
+        opened.verdict
     }
 
-    fn opened(self) -> Opened
-        ensures { λ r. ⌜ r ≡ record { verdict = Verdict.Accepted; channel = self .channel } ⌝ }
-    {
-        let channel = self.channel;
-        Opened {
-            verdict: Verdict::Accepted,
-            channel,
-        }
-    }
-
-    // The channel for entries: 4, 6, 7.
-    fn open(self) -> Opened
-        ensures { λ r. ⌜ OpensDay (fedOf self .day) r ⌝ }
+    // Whether entries may come: 4, 6, 7.
+    fn open(self, words: &[u32; 80]) -> Verdict
+        ensures { λ r. ⌜ Opens self (now (words .entry)) r ⌝ }
     {
         let stage = self.stage;
-        let table = self.table;
         match stage {
-            Stage::AtPeriod => self.unopened(),
-            Stage::AtServers => Channel::fresh(table, self.period),
-            Stage::AtEntries => self.opened(),
-            Stage::AtClose => self.unopened(),
+            Stage::AtPeriod => Verdict::Refused(Refusal::Place),
+            Stage::AtServers => self.complete(words),
+            Stage::AtEntries => Verdict::Accepted,
+            Stage::AtClose => Verdict::Refused(Refusal::Place),
         }
     }
 
     // The line of a refusal from the state; 9.
-    fn refuse(self, channel: Channel, identity: u16, k: Refusal, out: &mut [u8]) -> Step
+    fn refuse(self, identity: u16, k: Refusal, out: &mut [u8]) -> Step
         requires { ⌜ self .number ≤ lastLine ⌝ }
-        ensures { λ r. ⌜ Makes (fedOf self) (going (fedOf self) (refusal (state channel) identity (numberOf k)) (on atEntries (state channel))) (now (out .entry)) r (now (out .exit)) ⌝ }
+        ensures { λ r. ⌜ Keeps self (refusing identity (numberOf k)) (now (out .entry)) r (now (out .exit)) ⌝ }
     {
-        let written = channel.write_refused(identity, k, out);
-        let after = self.entered(channel);
+        let written = lines::write_refused(out, self.frame, identity, k);
+        let after = self.turned(Stage::AtEntries);
         self.put(after, written)
     }
 
     // As many frames towards a later time as fit; 9.
-    fn advance(self, channel: Channel, time: u32, out: &mut [u8]) -> Step
-        requires { ⌜ (state channel .frame < time) × (time < dayLength) ⌝ }
-        ensures { λ r. ⌜ Makes (fedOf self) (advancing (fedOf self) (state channel) (framesNow (state channel) (time - state channel .frame) (length (now (out .entry))))) (now (out .entry)) r (now (out .exit)) ⌝ }
+    fn advance(self, words: &mut [u32; 80], whole: &[bool; 256], time: u32, out: &mut [u8]) -> Step
+        requires { ⌜ self .frame < time ⌝ }
+        ensures { λ r. ⌜ Does self (now (words .entry)) (now (whole .entry)) (λ f c. advancing f c (framesNow c (time - c .frame) (length (now (out .entry))))) (now (out .entry)) r (now (words .exit)) (now (whole .entry)) (now (out .exit)) ⌝ }
     {
-        let within = channel.advance_within(time, out);
-        let verdict = within.verdict;
-        let next = within.channel;
+        let period = self.period;
+        let ran = frames::run_within(words, whole, period, self.frame, time, out);
+        let verdict = ran.verdict;
         match verdict {
-            Verdict::Accepted => Step {
-                written: Written::To(within.written),
-                feed: self.on(next),
-            },
+            Verdict::Accepted => {
+                let next = Feed {
+                    over: self.over,
+                    number: self.number,
+                    length: self.length,
+                    stage: Stage::AtEntries,
+                    frame: ran.frame,
+                    period,
+                };
+                Step {
+                    written: Written::To(ran.written),
+                    feed: next,
+                }
+            }
             Verdict::Refused(k) => Step {
                 written: Written::Refused(k),
                 feed: self,
@@ -425,9 +425,9 @@ impl Feed {
     }
 
     // The number of a refused verb; 9.
-    fn refuse_call(self, channel: Channel, identity: u16, k: Refusal, out: &mut [u8]) -> Step
+    fn refuse_call(self, identity: u16, k: Refusal, out: &mut [u8]) -> Step
         requires { ⌜ self .number ≤ lastLine ⌝ }
-        ensures { λ r. ⌜ RefusesCall (fedOf self) (state channel) identity k (now (out .entry)) r (now (out .exit)) ⌝ }
+        ensures { λ r. ⌜ RefusesCall self identity k (now (out .entry)) r (now (out .exit)) ⌝ }
     {
         if k.number() == 9 {
             Step {
@@ -435,92 +435,107 @@ impl Feed {
                 feed: self,
             }
         } else {
-            self.refuse(channel, identity, k, out)
+            self.refuse(identity, k, out)
         }
     }
 
     // The verb of an entry at the present time; 9.
-    fn call(self, channel: Channel, verb: Verb, a: u16, b: u16, out: &mut [u8]) -> Step
+    fn call(
+        self,
+        words: &mut [u32; 80],
+        whole: &mut [bool; 256],
+        verb: Verb,
+        a: u16,
+        b: u16,
+        out: &mut [u8],
+    ) -> Step
         requires { ⌜ self .number ≤ lastLine ⌝ }
-        ensures { λ r. ⌜ Makes (fedOf self) (effectMove (fedOf self) (callEffect [] (state channel) verb a b)) (now (out .entry)) r (now (out .exit)) ⌝ }
+        ensures { λ r. ⌜ Does self (now (words .entry)) (now (whole .entry)) (λ f c. effectMove f (callEffect [] c verb a b)) (now (out .entry)) r (now (words .exit)) (now (whole .exit)) (now (out .exit)) ⌝ }
     {
-        let answer = channel.verb(verb, a, b, out);
-        let verdict = answer.verdict;
-        let next = answer.channel;
+        let acted = verbs::act(words, whole, self.frame, verb, a, b, out);
+        let verdict = acted.verdict;
         match verdict {
             Verdict::Accepted => Step {
-                written: Written::To(answer.written),
-                feed: self.entered(next),
+                written: Written::To(acted.written),
+                feed: self.turned(Stage::AtEntries),
             },
-            Verdict::Refused(k) => self.refuse_call(channel, a, k, out),
+            Verdict::Refused(k) => self.refuse_call(a, k, out),
         }
     }
 
     // An entry on the channel: 8, 11, its time, its verb.
-    fn enter(self, channel: Channel, time: u32, verb: Verb, a: u16, b: u16, out: &mut [u8]) -> Step
-        requires { ⌜ (self .number ≤ lastLine) × (time < dayLength) ⌝ }
-        ensures { λ r. ⌜ Makes (fedOf self) (onMove (fedOf self) (length (now (out .entry))) (state channel) (entry time verb a b) (entryEffect (state channel) time verb a b)) (now (out .entry)) r (now (out .exit)) ⌝ }
+    fn enter(
+        self,
+        words: &mut [u32; 80],
+        whole: &mut [bool; 256],
+        time: u32,
+        verb: Verb,
+        a: u16,
+        b: u16,
+        out: &mut [u8],
+    ) -> Step
+        requires { ⌜ self .number ≤ lastLine ⌝ }
+        ensures { λ r. ⌜ Does self (now (words .entry)) (now (whole .entry)) (λ f c. onMove f (length (now (out .entry))) c (entry time verb a b) (entryEffect c time verb a b)) (now (out .entry)) r (now (words .exit)) (now (whole .exit)) (now (out .exit)) ⌝ }
     {
-        if !channel.knows(verb, a, b) {
+        if !verbs::knows(words, verb, a, b) {
             return self.stop(Refusal::Identity, out);
         }
-        let frame = channel.frame();
-        if time < frame {
-            return self.refuse(channel, a, Refusal::Past, out);
+        if time < self.frame {
+            return self.refuse(a, Refusal::Past, out);
         }
-        if frame < time {
-            return self.advance(channel, time, out);
+        if self.frame < time {
+            return self.advance(words, whole, time, out);
         }
-        self.call(channel, verb, a, b, out)
-    }
-
-    fn close(self, channel: Channel) -> Step
-        requires { ⌜ self .number ≤ lastLine ⌝ }
-        ensures { λ r. ⌜ MakesQuietly (fedOf self) (on atClose (state channel)) r ⌝ }
-    {
-        let next = self.shut(channel);
-        next.quiet()
+        self.call(words, whole, verb, a, b, out)
     }
 
     // `end` on the channel: 11, its time.
-    fn end(self, channel: Channel, time: u32, out: &mut [u8]) -> Step
-        requires { ⌜ (self .number ≤ lastLine) × (time < dayLength) ⌝ }
-        ensures { λ r. ⌜ Makes (fedOf self) (onMove (fedOf self) (length (now (out .entry))) (state channel) (end time) (endEffect (state channel) time)) (now (out .entry)) r (now (out .exit)) ⌝ }
+    fn end(self, words: &mut [u32; 80], whole: &[bool; 256], time: u32, out: &mut [u8]) -> Step
+        requires { ⌜ self .number ≤ lastLine ⌝ }
+        ensures { λ r. ⌜ Does self (now (words .entry)) (now (whole .entry)) (λ f c. onMove f (length (now (out .entry))) c (end time) (endEffect c time)) (now (out .entry)) r (now (words .exit)) (now (whole .entry)) (now (out .exit)) ⌝ }
     {
-        let now = channel.frame();
-        if time < now {
-            return self.refuse(channel, 0, Refusal::Past, out);
+        let frame = self.frame;
+        if time < frame {
+            return self.refuse(0, Refusal::Past, out);
         }
-        if now < time {
-            return self.advance(channel, time, out);
+        if frame < time {
+            return self.advance(words, whole, time, out);
         }
-        self.close(channel)
+        Step {
+            written: Written::To(0),
+            feed: self.turned(Stage::AtClose),
+        }
     }
 
     // An entry: 4, 6, 7 before all else.
-    fn enter_open(self, time: u32, verb: Verb, a: u16, b: u16, out: &mut [u8]) -> Step
-        requires { ⌜ (self .number ≤ lastLine) × (time < dayLength) ⌝ }
-        ensures { λ r. ⌜ Makes (fedOf self) (placedMove (fedOf self) (length (now (out .entry))) (entry time verb a b)) (now (out .entry)) r (now (out .exit)) ⌝ }
+    fn enter_open(
+        self,
+        words: &mut [u32; 80],
+        whole: &mut [bool; 256],
+        time: u32,
+        verb: Verb,
+        a: u16,
+        b: u16,
+        out: &mut [u8],
+    ) -> Step
+        requires { ⌜ self .number ≤ lastLine ⌝ }
+        ensures { λ r. ⌜ Does self (now (words .entry)) (now (whole .entry)) (λ f c. placedMove f (length (now (out .entry))) (entry time verb a b)) (now (out .entry)) r (now (words .exit)) (now (whole .exit)) (now (out .exit)) ⌝ }
     {
-        let opened = self.open();
-        let verdict = opened.verdict;
-        let channel = opened.channel;
+        let verdict = self.open(words);
         match verdict {
-            Verdict::Accepted => self.enter(channel, time, verb, a, b, out),
+            Verdict::Accepted => self.enter(words, whole, time, verb, a, b, out),
             Verdict::Refused(k) => self.stop(k, out),
         }
     }
 
     // `end`: 4, 6, 7 before all else.
-    fn end_open(self, time: u32, out: &mut [u8]) -> Step
-        requires { ⌜ (self .number ≤ lastLine) × (time < dayLength) ⌝ }
-        ensures { λ r. ⌜ Makes (fedOf self) (placedMove (fedOf self) (length (now (out .entry))) (end time)) (now (out .entry)) r (now (out .exit)) ⌝ }
+    fn end_open(self, words: &mut [u32; 80], whole: &[bool; 256], time: u32, out: &mut [u8]) -> Step
+        requires { ⌜ self .number ≤ lastLine ⌝ }
+        ensures { λ r. ⌜ Does self (now (words .entry)) (now (whole .entry)) (λ f c. placedMove f (length (now (out .entry))) (end time)) (now (out .entry)) r (now (words .exit)) (now (whole .entry)) (now (out .exit)) ⌝ }
     {
-        let opened = self.open();
-        let verdict = opened.verdict;
-        let channel = opened.channel;
+        let verdict = self.open(words);
         match verdict {
-            Verdict::Accepted => self.end(channel, time, out),
+            Verdict::Accepted => self.end(words, whole, time, out),
             Verdict::Refused(k) => self.stop(k, out),
         }
     }
@@ -549,65 +564,139 @@ fn beyond(line: DayLine) -> Refusal
     }
 }
 
-fn shorter(n: usize) -> usize
-    ensures { λ r. ⌜ r ≡ choose (ltb n enough) n enough ⌝ }
+// What the first n bytes of a line say.
+fn read(line: &[u8], n: usize) -> DayLine
+    ensures { λ r. ⌜ ofDayLine r ≡ lineRead (take n (now (line .entry))) ⌝ }
 {
-    if n < Feed::ENOUGH { n } else { Feed::ENOUGH }
+    let end = present(line, n);
+    DayLine::read(&line[..end])
 }
 
 impl Feed {
-    // Lines of a day, at most.
-    pub const LINES: u32 = 65535;
-
-    // So many bytes are enough for every step: what a frame prints at the most.
-    pub const STEP: usize = 237600;
-
-    fn read(self) -> DayLine
-        ensures { λ r. ⌜ ofDayLine r ≡ lineRead (fedOf self .line) ⌝ }
-    {
-        let line = self.line;
-        let n = shorter(self.length);
-        DayLine::read(&line[..n])
-    }
-
     // A line of the first 65,535.
-    fn perform(self, line: DayLine, out: &mut [u8]) -> Step
+    fn perform(
+        self,
+        words: &mut [u32; 80],
+        whole: &mut [bool; 256],
+        line: DayLine,
+        out: &mut [u8],
+    ) -> Step
         requires { ⌜ (self .number ≤ lastLine) × Sized (ofDayLine line) ⌝ }
-        ensures { λ r. ⌜ Makes (fedOf self) (placedMove (fedOf self) (length (now (out .entry))) (ofDayLine line)) (now (out .entry)) r (now (out .exit)) ⌝ }
+        ensures { λ r. ⌜ Does self (now (words .entry)) (now (whole .entry)) (λ f c. placedMove f (length (now (out .entry))) (ofDayLine line)) (now (out .entry)) r (now (words .exit)) (now (whole .exit)) (now (out .exit)) ⌝ }
     {
         match line {
             DayLine::Wrong(k) => self.stop(k, out),
-            DayLine::Period(period) => self.set_period(period, out),
-            DayLine::Server { identity, priority } => self.add_server(identity, priority, out),
+            DayLine::Period(period) => self.set_period(words, whole, period, out),
+            DayLine::Server { identity, priority } => {
+                self.add_server(words, whole, identity, priority, out)
+            }
             DayLine::Entry {
                 time,
                 verb,
                 first,
                 second,
-            } => self.enter_open(time, verb, first, second, out),
-            DayLine::End(time) => self.end_open(time, out),
+            } => self.enter_open(words, whole, time, verb, first, second, out),
+            DayLine::End(time) => self.end_open(words, whole, time, out),
         }
     }
 
     // A line.
-    fn go(self, out: &mut [u8]) -> Step
-        ensures { λ r. ⌜ Makes (fedOf self) (lineMove (fedOf self) (length (now (out .entry))) (lineRead (fedOf self .line))) (now (out .entry)) r (now (out .exit)) ⌝ }
+    fn go(
+        self,
+        words: &mut [u32; 80],
+        whole: &mut [bool; 256],
+        line: DayLine,
+        out: &mut [u8],
+    ) -> Step
+        requires { ⌜ Sized (ofDayLine line) ⌝ }
+        ensures { λ r. ⌜ Does self (now (words .entry)) (now (whole .entry)) (λ f c. lineMove f (length (now (out .entry))) (ofDayLine line)) (now (out .entry)) r (now (words .exit)) (now (whole .exit)) (now (out .exit)) ⌝ }
     {
-        let line = self.read();
         if self.number > Feed::LINES {
             return self.stop(beyond(line), out);
         }
-        self.perform(line, out)
+        self.perform(words, whole, line, out)
     }
 
     // What a whole line does, as far as the slice has room: as many frames as fit of those before its time, and where there are none, the line itself. Nothing where no whole line is there; 9.
-    pub fn step(self, out: &mut [u8]) -> Step
-        ensures { λ r. ⌜ Makes (fedOf self) (stepMove (fedOf self) (length (now (out .entry)))) (now (out .entry)) r (now (out .exit)) ⌝ }
+    pub fn step(
+        self,
+        line: &[u8; 65],
+        words: &mut [u32; 80],
+        whole: &mut [bool; 256],
+        out: &mut [u8],
+    ) -> Step
+        ensures { λ r. ⌜ Makes (fedOf self (now (line .entry)) (now (words .entry)) (now (whole .entry))) (stepMove (fedOf self (now (line .entry)) (now (words .entry)) (now (whole .entry))) (length (now (out .entry)))) (now (out .entry)) (r .written) (fedOf (r .feed) (now (line .entry)) (now (words .exit)) (now (whole .exit))) (now (out .exit)) ⌝ }
     {
-        if self.waits() {
-            self.go(out)
-        } else {
-            self.quiet()
+        if !self.waits(line) {
+            return Step {
+                written: Written::To(0),
+                feed: self,
+            };
+        }
+        let read = read(line, self.length);
+        self.go(words, whole, read, out)
+    }
+
+    // A second step after n bytes, of a line that was read, if it is still to be done and there is room.
+    fn second(
+        self,
+        line: &[u8; 65],
+        words: &mut [u32; 80],
+        whole: &mut [bool; 256],
+        read: DayLine,
+        n: usize,
+        out: &mut [u8],
+    ) -> Step
+        requires { ⌜ (n ≤ length (now out)) × Sized (ofDayLine read) × IsOf read (fedOf self (now line) (now words) (now whole)) ⌝ }
+        ensures { λ r. ⌜ Follows (fedOf self (now (line .entry)) (now (words .entry)) (now (whole .entry))) n (now (out .entry)) (r .written) (fedOf (r .feed) (now (line .entry)) (now (words .exit)) (now (whole .exit))) (now (out .exit)) ⌝ }
+    {
+        if !self.waits(line) {
+            return Step {
+                written: Written::To(n),
+                feed: self,
+            };
+        }
+        let more = self.go(words, whole, read, &mut out[n..]);
+        let written = more.written;
+        let next = more.feed;
+        match written {
+            Written::To(m) => Step {
+                written: Written::To(n + m),
+                feed: next,
+            },
+            Written::Refused(_) => Step {
+                written: Written::To(n),
+                feed: next,
+            },
+        }
+    }
+
+    // A step, and a second one where the line is still to be done and there is room for it; 9.
+    pub fn steps(
+        self,
+        line: &[u8; 65],
+        words: &mut [u32; 80],
+        whole: &mut [bool; 256],
+        out: &mut [u8],
+    ) -> Step
+        ensures { λ r. ⌜ Makes (fedOf self (now (line .entry)) (now (words .entry)) (now (whole .entry))) (stepsMove (fedOf self (now (line .entry)) (now (words .entry)) (now (whole .entry))) (length (now (out .entry)))) (now (out .entry)) (r .written) (fedOf (r .feed) (now (line .entry)) (now (words .exit)) (now (whole .exit))) (now (out .exit)) ⌝ }
+    {
+        if !self.waits(line) {
+            return Step {
+                written: Written::To(0),
+                feed: self,
+            };
+        }
+        let read = read(line, self.length);
+        let first = self.go(words, whole, read, out);
+        let written = first.written;
+        let next = first.feed;
+        match written {
+            Written::To(n) => next.second(line, words, whole, read, n, out),
+            Written::Refused(k) => Step {
+                written: Written::Refused(k),
+                feed: next,
+            },
         }
     }
 }
@@ -615,173 +704,39 @@ impl Feed {
 // ---- the end of the input
 
 impl Feed {
-    fn finished(self) -> Step
-        ensures { λ r. ⌜ Over (fedOf self) r ⌝ }
-    {
-        let next = self.ended();
-        next.quiet()
-    }
-
     // After a whole line: 4 where `end` is missing.
     fn finish_line(self, out: &mut [u8]) -> Step
-        ensures { λ r. ⌜ Makes (fedOf self) (record { lines = finish (self .number) (fedOf self .day .stage); fed = ended (fedOf self) }) (now (out .entry)) r (now (out .exit)) ⌝ }
+        ensures { λ r. ⌜ Keeps self (λ f c. record { lines = finish (f .number) (f .day .stage); fed = ended f }) (now (out .entry)) r (now (out .exit)) ⌝ }
     {
         let stage = self.stage;
         match stage {
             Stage::AtPeriod => self.stop(Refusal::Place, out),
             Stage::AtServers => self.stop(Refusal::Place, out),
             Stage::AtEntries => self.stop(Refusal::Place, out),
-            Stage::AtClose => self.finished(),
+            Stage::AtClose => {
+                let mut next = self;
+                next.over = true;
+                Step {
+                    written: Written::To(0),
+                    feed: next,
+                }
+            }
         }
     }
 
     // No byte is to come: 1 where the last line has no line feed, 4 where `end` is missing. Then the sheet is over. Nothing where a whole line is to be done first; 9.
-    pub fn finish(self, out: &mut [u8]) -> Step
-        ensures { λ r. ⌜ Makes (fedOf self) (lastMove (fedOf self)) (now (out .entry)) r (now (out .exit)) ⌝ }
+    pub fn finish(self, line: &[u8; 65], out: &mut [u8]) -> Step
+        ensures { λ r. ⌜ Finishes self (now (line .entry)) (now (out .entry)) r (now (out .exit)) ⌝ }
     {
-        if self.closed() {
-            return self.quiet();
+        if self.over | is_whole(line, self.length) {
+            return Step {
+                written: Written::To(0),
+                feed: self,
+            };
         }
-        if self.length > 0 {
+        if present(line, self.length) > 0 {
             return self.stop(Refusal::Form, out);
         }
         self.finish_line(out)
-    }
-}
-
-// ---- a whole day
-
-// What a turn of a whole day wrote, and how many bytes of the day it took.
-struct Turned {
-    written: Written,
-    used: usize,
-    feed: Feed,
-}
-
-// Whether bytes fit into what is left, and what is left then.
-struct Spent {
-    fits: bool,
-    left: usize,
-}
-
-fn spend(written: Written, left: usize) -> Spent
-    ensures { λ r. ⌜ Spends written left r ⌝ }
-{
-    match written {
-        Written::To(n) => {
-            if n > left {
-                Spent { fits: false, left }
-            } else {
-                Spent {
-                    fits: true,
-                    left: left - n,
-                }
-            }
-        }
-        Written::Refused(_) => Spent { fits: false, left },
-    }
-}
-
-// The place after a write at a place, in a slice of such a length.
-fn after(at: usize, written: Written, room: usize) -> usize
-    requires { ⌜ at ≤ room ⌝ }
-    ensures { λ r. ⌜ r ≡ at + choose (leb (writtenBytes written) (room - at)) (writtenBytes written) 0 ⌝ }
-{
-    match written {
-        Written::To(n) => { if n <= room - at { at + n } else { at } }
-        Written::Refused(_) => at,
-    }
-}
-
-// A step where a whole line is to be done, else bytes of the rest of the day, else its end; 9.
-fn turn(feed: Feed, rest: &[u8], out: &mut [u8]) -> Turned
-    ensures { λ r. ⌜ Turns (fedOf feed) (now (rest .entry)) (now (out .entry)) r (now (out .exit)) ⌝ }
-{
-    if feed.waits() {
-        let step = feed.step(out);
-        let written = step.written;
-        let next = step.feed;
-        return Turned {
-            written,
-            used: 0,
-            feed: next,
-        };
-    }
-    if rest.len() == 0 {
-        let last = feed.finish(out);
-        let written = last.written;
-        let next = last.feed;
-        return Turned {
-            written,
-            used: 0,
-            feed: next,
-        };
-    }
-    let taken = feed.take(rest);
-    let next = taken.feed;
-    Turned {
-        written: Written::To(0),
-        used: taken.used,
-        feed: next,
-    }
-}
-
-// Whether the sheet of a day fits into so many bytes; the scratch slice has room for a step.
-fn fits(day: &[u8], scratch: &mut [u8], room: usize) -> bool
-    requires { ⌜ stepBytes ≤ length (now scratch) ⌝ }
-    ensures { λ r. ⌜ r ≡ leb (length (sheet (now (day .entry)))) room ⌝ }
-{
-    let begun = Feed::begin(scratch);
-    if room < Feed::HEADER {
-        return false;
-    }
-    let mut feed = begun.feed;
-    let mut left = room - Feed::HEADER;
-    let mut i: usize = 0;
-    while !feed.over() {
-        let turned = turn(feed, &day[i..], scratch);
-        let written = turned.written;
-        let next = turned.feed;
-        let spent = spend(written, left);
-        if !spent.fits {
-            return false;
-        }
-        left = spent.left;
-        i += turned.used;
-        feed = next;
-    }
-    true
-}
-
-// The sheet of a day into a slice in which it fits: its length.
-fn write(day: &[u8], out: &mut [u8]) -> usize
-    requires { ⌜ length (sheet (now day)) ≤ length (now out) ⌝ }
-    ensures { λ r. ⌜ Writes (now (out .entry)) 0 (sheet (now (day .entry))) (Written.To r) (now (out .exit)) ⌝ }
-{
-    let begun = Feed::begin(out);
-    let mut feed = begun.feed;
-    let mut at: usize = Feed::HEADER;
-    let mut i: usize = 0;
-    while !feed.over() {
-        let room = out.len();
-        let turned = turn(feed, &day[i..], &mut out[at..]);
-        let written = turned.written;
-        let next = turned.feed;
-        at = after(at, written, room);
-        i += turned.used;
-        feed = next;
-    }
-    at
-}
-
-// The sheet of a whole day, at the slice's start; 9 where it does not fit, and then no byte is changed.
-pub fn sheet(day: &[u8], out: &mut [u8]) -> Written
-    ensures { λ r. ⌜ Writes (now (out .entry)) 0 (sheet (now (day .entry))) r (now (out .exit)) ⌝ }
-{
-    let mut scratch = [0; Feed::STEP];
-    if fits(day, &mut scratch, out.len()) {
-        Written::To(write(day, out))
-    } else {
-        Written::Refused(Refusal::Short)
     }
 }

@@ -209,5 +209,5 @@ module _ (p : Period) (w : List Bool) (l : List Server) (b t f target : ℕ) (ro
   pub beats-hop : {d : List ℕ} {at : ℕ} → at ≤ length d → t < target → target < f → Stretches (stateOf t p l w) target d at l (record { frame = target; at = at; full = false }) d
   beats-hop h g k =
       stretch-jump (stateOf t p l w)
-      (jump-quiet p l {loud = 0} (quiet p w l b t f room v) room (all-rest p w l b t f room v) (record { from = omega arith; to = omega arith; early = inr k }))
+      (jump-quiet p l (quiet p w l b t f room v) room (all-rest p w l b t f room v) (record { from = omega arith; to = omega arith; early = inr k }))
       h g (omega arith)

@@ -6,15 +6,16 @@ use mathlib.Core.List.{List, [], _++_, append-nil}
 use Prim.Native.Nat.{ℕ, zero, suc, _+_, _-_, _≤_, _<_}
 use native.Mathlib.Nat.{zero-add, suc-add}
 use native.Mathlib.Omega.{arith}
-use borrow.Author.Tests.{lt-ltb, ltb-true, le-leb, lt-leb, leb-true, leb-false, eq-eqb, ne-eqb, eqb-true}
+use borrow.Author.Tests.{lt-ltb, ltb-true, le-leb, lt-leb, leb-true, leb-false, eq-eqb, ne-eqb, eqb-true, le-ltb}
 use lib.Dec.{ltb, leb, eqb}
 use lib.ListN.{length, length-append}
 use Rattle.lists.specs.Choice.{choose}
 use Rattle.lists.specs.Splice.{splice}
-use Rattle.lists.proofs.Cases.{less, equal, on, tested, chosen, other, clash, and-true, and-right, fst-true, snd-true}
+use Rattle.lists.proofs.Cases.{less, equal, on, tested, chosen, other, clash, and-true, and-right, fst-true, snd-true, and-left}
 use Rattle.lists.proofs.Splicing.{splice-none}
 use Rattle.refusal.specs.declared.Refusal.the-variants.{Short}
 use Rattle.refusal.specs.declared.Verdict.the-variants.{Accepted, Refused}
+use Rattle.server.specs.declared.Period.{Period}
 use Rattle.server.specs.declared.Server.{Server}
 use Rattle.group.specs.declared.State.{State}
 use Rattle.group.specs.Frame.{advanced, frameLines, movedTo}
@@ -23,6 +24,7 @@ use Rattle.group.specs.Answers.{Gives}
 use Rattle.group.proofs.Places.{frame-after}
 use Rattle.group.proofs.Answering.{is-long, gives-refused, gives-so}
 use Rattle.frames.specs.Words.{serversOf}
+use Rattle.frames.specs.Answers.{stateOf}
 use Rattle.frames.specs.declared.Played.{Played}
 use Rattle.frames.specs.declared.Stretched.{Stretched}
 use Rattle.frames.specs.Steps.{Out, Jumps, Fares, Stretches, MovesWithin}
@@ -71,7 +73,7 @@ module _ (c : State) {d : List ℕ} {at : ℕ} where
 
 -- ---- a jump, then one frame if it fits
 
-module _ (c : State) {target loud s : ℕ} (j : Jumps (c .period) (c .servers) (c .frame) target loud s) where
+module _ (c : State) {target s : ℕ} (j : Jumps (c .period) (c .servers) (c .frame) target s) where
   abbrev skipped : ℕ
   skipped = s - c .frame
 
@@ -252,13 +254,14 @@ module _ (c : State) (target : ℕ) {d : List ℕ} {r : Played} {d′ : List ℕ
   frame-within = ap (λ (x : State). x .frame) (v .channel) ∙ frame-after frames c
 
   -- there are frames to go and none fits
-  pub within-short : (ltb (c .frame) target && eqb (r .frame) (c .frame)) ≡ true → Gives c (withinGoes c target (length d)) d (Refused Short) 0 c d′
-  unfolding linesBy
+  pub within-short : (ltb (c .frame) target && eqb (r .frame) (c .frame)) ≡ true → Gives c (withinGoes c target (length d)) d (Refused Short) 0 (movedTo c (c .frame) (serversOf (r .words))) d′
+  unfolding linesBy advancedBy
   within-short e =
       let same = eqb-true (r .frame) (c .frame) (snd-true (ltb (c .frame) target) _ e) in
       let none : frames ≡ 0 = omega (arith, frame-within, same) in
       let kept : d′ ≡ d = v .out .is refl (omega (arith, v .fits)) ∙ ap (λ (k : ℕ). splice d 0 (linesBy k c)) none ∙ splice-none d 0 in
-      rw kept (gives-refused c (withinGoes c target (length d)) d Short (chosen 0 (and-true (fst-true (ltb (c .frame) target) _ e) (eq-eqb frames 0 none))))
+      let stays : movedTo c (c .frame) (serversOf (r .words)) ≡ c = ap (λ (t : ℕ). movedTo c t (serversOf (r .words))) (sym same) ∙ v .channel ∙ ap (λ (k : ℕ). advancedBy k c) none in
+      rw kept (rw stays (gives-refused c (withinGoes c target (length d)) d Short (chosen 0 (and-true (fst-true (ltb (c .frame) target) _ e) (eq-eqb frames 0 none)))))
 
   pub within-fits : (ltb (c .frame) target && eqb (r .frame) (c .frame)) ≡ false → Gives c (withinGoes c target (length d)) d Accepted (r .at) (movedTo c (r .frame) (serversOf (r .words))) d′
   within-fits e =
@@ -272,3 +275,13 @@ module _ (c : State) (target : ℕ) {d : List ℕ} {r : Played} {d′ : List ℕ
           (λ z. eq-eqb frames 0 z ∙ sym (eq-eqb (r .frame) (c .frame) (omega (arith, frame-within))))
           (λ z. ne-eqb frames 0 z ∙ sym (ne-eqb (r .frame) (c .frame) (λ y. z (omega (arith, frame-within)))))
           (equal frames 0)
+
+-- up to a later target nothing happens: all frames fit, and nothing is written
+pub quiet-fits :
+    (t : ℕ) (p : Period) (w : List ℕ) (l : List Bool) (target : ℕ) (d : List ℕ) → t < target → Jumps p (serversOf w) t target target →
+    Gives (stateOf t p (serversOf w) l) (withinGoes (stateOf t p (serversOf w) l) target (length d)) d Accepted 0 (stateOf target p (serversOf w) l) d
+quiet-fits t p w l target d h j =
+    let c = stateOf t p (serversOf w) l in
+    let g = stretch-jump c j {d = d} {at = 0} (omega arith) h (omega arith) in
+    let v = within-end {w = w} (within-turn within-begin g refl) (and-left _ (le-ltb target target (omega arith))) in
+    within-fits c target v (and-right (ltb t target) (ne-eqb target t (λ z. omega arith)))

@@ -27,10 +27,6 @@ module _ (c : State) (t : ℕ) (l : List Server) where
   unfolding turnsLines
   lines-more i d h = rw (add-one, drop-cons l i d h)
 
-  pub lines-end : (i : ℕ) → length l ≤ i → turnsLines c t i (drop i l) ≡ []
-  unfolding turnsLines
-  lines-end i h = rw (drop-of-length-le l h)
-
 -- a turn in which all of the inbox is heard
 pub turn-is :
     (c : State) (t j : ℕ) (s : Server) {hs : List Heartbeat} {wet : Bool} {d : List ℕ} {at : ℕ} {r : Told} {d′ : List ℕ} → hs ≡ inbox c j →
@@ -41,15 +37,7 @@ turn-is c t j s {hs} {wet} {d} {at} {r} {d′} e p = (
   subst (λ (x : List Heartbeat). Out wet d at (heardLines t (cleared s) x ++ timedLines t (s .identity) (timed t (c .period) (heardAll t (cleared s) x))) (r .at) d′) e (p .out),
 )
 
--- the turn of a server is that of an equal one; so are its timers
-pub turns-as :
-    {hs : List Heartbeat} {t : ℕ} {p : Period} {wet : Bool} {s x : Server} {d : List ℕ} {at : ℕ} {r : Told} {d′ : List ℕ} → s ≡ x → Turns hs t p wet s d at r d′ →
-    Turns hs t p wet x d at r d′
-turns-as {hs} {t} {p} {wet} {s} {x} {d} {at} {r} {d′} e v = subst (λ (y : Server). Turns hs t p wet y d at r d′) e v
-
-pub listens-as : {hs : List Heartbeat} {t : ℕ} {p : Period} {s x : Server} → s ≡ x → JustListens hs t p s → JustListens hs t p x
-listens-as {hs} {t} {p} {s} {x} e v = subst (JustListens hs t p) e v
-
+-- the timers of a server are those of an equal one
 pub does-as :
     (t : ℕ) (p : Period) {wet : Bool} {s x : Server} {d : List ℕ} {at : ℕ} {r : Told} {d′ : List ℕ} → s ≡ x →
     Does wet (timed t p s .server) (timedLines t (s .identity) (timed t p s)) d at r d′ → Does wet (timed t p x .server) (timedLines t (x .identity) (timed t p x)) d at r d′
@@ -67,9 +55,6 @@ frame-runs c e o = record { servers = e; out = o }
 module _ (t : ℕ) (p : Period) (l : List Server) where
   pub ticks-more : (i : ℕ) (d : Server) → i < length l → tickLines t p (drop i l) ≡ timedLines t (getD l i d .identity) (timed t p (getD l i d)) ++ tickLines t p (drop (i + 1) l)
   ticks-more i d h = rw (add-one, drop-cons l i d h)
-
-  pub ticks-end : (i : ℕ) → length l ≤ i → tickLines t p (drop i l) ≡ []
-  ticks-end i h = rw (drop-of-length-le l h)
 
 -- the timers of a place where none is due
 pub ticks-none :

@@ -32,12 +32,12 @@ use Rattle.frames.proofs.Words.{not-so}
 use Rattle.frames.proofs.Writing.{chain, start}
 use Rattle.frames.proofs.Quiet.{no-timer}
 
-heard-append : (t : ℕ) (s : Server) (xs ys : List Heartbeat) → heardAll t s (xs ++ ys) ≡ heardAll t (heardAll t s xs) ys
+pub heard-append : (t : ℕ) (s : Server) (xs ys : List Heartbeat) → heardAll t s (xs ++ ys) ≡ heardAll t (heardAll t s xs) ys
 unfolding heardAll
 heard-append t s [] ys = refl
 heard-append t s (x ∷ xs) ys = heard-append t (heard t s x .server) xs ys
 
-said-append : (t : ℕ) (s : Server) (xs ys : List Heartbeat) → heardLines t s (xs ++ ys) ≡ heardLines t s xs ++ heardLines t (heardAll t s xs) ys
+pub said-append : (t : ℕ) (s : Server) (xs ys : List Heartbeat) → heardLines t s (xs ++ ys) ≡ heardLines t s xs ++ heardLines t (heardAll t s xs) ys
 unfolding heardAll heardLines
 said-append t s [] ys = refl
 said-append t s (x ∷ xs) ys =
@@ -272,16 +272,16 @@ ticks-cleared role.Backup t p s = refl
 ticks-cleared role.Prospect t p s = refl
 ticks-cleared role.Primary t p s = refl
 
--- a turn in which nothing is heard and no timer is due
+-- a turn in which what is heard changes nothing, and no timer is due
 pub idle-turn :
-    (t : ℕ) (p : Period) (s : Server) {hs : List Heartbeat} {wet : Bool} {d : List ℕ} {at : ℕ} → hs ≡ [] → ticksIn (s .role) t p s ≡ false →
+    (t : ℕ) (p : Period) (s : Server) {hs : List Heartbeat} {wet : Bool} {d : List ℕ} {at : ℕ} → heardAll t (cleared s) hs ≡ cleared s → heardLines t (cleared s) hs ≡ [] → ticksIn (s .role) t p s ≡ false →
     Turns hs t p wet s d at (record { server = cleared s; at = at }) d
-unfolding heardAll heardLines timedLines linesOf
-idle-turn t p s {hs} {wet} {d} {at} e h =
+unfolding timedLines linesOf
+idle-turn t p s {hs} {wet} {d} {at} e l h =
     let rest : timed t p (cleared s) ≡ resting (cleared s) = no-timer t p (cleared s) (s .role) refl (ticks-cleared (s .role) t p s ∙ h) in
     record {
-      server = sym (ap (λ (x : List Heartbeat). timed t p (heardAll t (cleared s) x) .server) e ∙ ap (λ (m : Timed). m .server) rest);
+      server = sym (ap (λ (x : Server). timed t p x .server) e ∙ ap (λ (m : Timed). m .server) rest);
       out =
-          subst (λ (l : List ℕ). Out wet d at l at d)
-          (sym (ap (λ (x : List Heartbeat). heardLines t (cleared s) x ++ timedLines t (s .identity) (timed t p (heardAll t (cleared s) x))) e ∙ ap (timedLines t (s .identity)) rest)) start;
+          subst (λ (y : List ℕ). Out wet d at y at d)
+          (sym (ap₂ (λ (y : List ℕ) (x : Server). y ++ timedLines t (s .identity) (timed t p x)) l e ∙ ap (timedLines t (s .identity)) rest)) start;
     }

@@ -1,7 +1,7 @@
 -- The look-up of the next sender. Assumes nothing.
 use mathlib.Core.Bool.{Bool, true, false, not, _&&_, _||_}
 use mathlib.Core.Path.{_≡_, refl, sym, ap, ap₂, subst, _∙_}
-use mathlib.Core.List.{List, [], _∷_, _++_, append-nil, List·Memᴰ, List·Memᴰ·head, List·Memᴰ·tail, List·Memᴰ·not-nil, List·Memᴰ·cases-cons, List·Memᴰ·append-cases}
+use mathlib.Core.List.{List, [], _∷_, _++_, append-nil, append-assoc, List·Memᴰ, List·Memᴰ·head, List·Memᴰ·tail, List·Memᴰ·not-nil, List·Memᴰ·cases-cons, List·Memᴰ·append-cases}
 use mathlib.Core.Logic.{_⊎_, inl, inr, ⊎-elim}
 use Prim.Native.Nat.{ℕ, zero, suc, _+_, _-_, _*_, _/_, _%_, _≤_, _<_}
 use native.Mathlib.Omega.{arith}
@@ -9,7 +9,7 @@ use native.Mathlib.Numerals.{add-one}
 use borrow.Author.Tests.{lt-ltb, le-ltb, eq-eqb, ne-eqb, eqb-true, eqb-false}
 use lib.Dec.{eqb, ltb}
 use lib.ListN.{length, take, drop, set, getD, replicate, length-set, drop-of-length-le}
-use lib.Seq.{drop-cons, take-set-le, take-suc-set, length-take-le, getD-take, getD-set-other, getD-set-same}
+use lib.Seq.{drop-cons, take-suc, take-set-le, take-suc-set, length-take-le, getD-take, getD-set-other, getD-set-same}
 use Rattle.lists.specs.Choice.{choose}
 use Rattle.lists.proofs.Cases.{tested, less, equal, on, chosen, other, and-left, and-right, or-false, bit-small, bit-back}
 use Rattle.heartbeat.specs.declared.Heartbeat.{Heartbeat}
@@ -23,7 +23,7 @@ use Rattle.frames.specs.Steps.{SenderList}
 use Rattle.group.specs.Table.{most}
 use Rattle.group.specs.Hearing.{place, whole, noPlace, hearsFrom, over, isPlace, comes, nextAmong, nextSender, sendersAfter, sentByAll, inbox}
 use Rattle.frames.specs.Words.{rankNumber, sendingNumber}
-use Rattle.frames.specs.Steps.{sentBelow, Still, Ranked, senderOf, Listed, Numbers, Lists, overBy, comesBy, heardBy, bestBy, nextBy, sendersBy, sentOf, inboxBy}
+use Rattle.frames.specs.Steps.{sentBelow, Still, Ranked, senderOf, Listed, Numbers, Lists, overBy, comesBy, heardBy, bestBy, heardOf, bestIn, Near, nextBy, sendersBy, sentOf, inboxBy}
 use Rattle.frames.proofs.Words.{Fits, parts}
 
 -- ---- the numbers of the servers
@@ -134,20 +134,20 @@ module _ (c : State) (j last : ℕ) where
 -- ---- the look-up over the numbers
 
 -- to look at the places from k on ends where the look-up ends
-pub record Looking (ranks : List ℕ) (w : List Bool) (j last : ℕ) (l : List ℕ) (n k best : ℕ) : Type 0 where
+pub record Looking (ranks : List ℕ) (last : ℕ) (l : List ℕ) (n k best : ℕ) : Type 0 where
   pub within : k ≤ n
-  pub ends : bestBy ranks w j last best (drop k (take n l)) ≡ bestBy ranks w j last 16 (take n l)
+  pub ends : bestIn ranks last best (drop k (take n l)) ≡ bestIn ranks last 16 (take n l)
 
 long : {l : List ℕ} {n : ℕ} → Listed l n → length (take n l) ≡ n
 long {l} {n} v = length-take-le n l (omega (arith, v .few, v .room))
 
-module _ {ranks : List ℕ} {w : List Bool} {j last : ℕ} {l : List ℕ} {n : ℕ} where
-  pub look-begin : Looking ranks w j last l n 0 16
+module _ {ranks : List ℕ} {last : ℕ} {l : List ℕ} {n : ℕ} where
+  pub look-begin : Looking ranks last l n 0 16
   look-begin = record { within = omega arith; ends = refl }
 
   pub look-turn :
-      {k best next : ℕ} → Listed l n → Looking ranks w j last l n k best → k < n →
-      next ≡ choose (comesBy ranks (heardBy w j (getD l k 0)) last best (getD l k 0)) (getD l k 0) best → Looking ranks w j last l n (k + 1) next
+      {k best next : ℕ} → Listed l n → Looking ranks last l n k best → k < n →
+      next ≡ choose (comesBy ranks true last best (getD l k 0)) (getD l k 0) best → Looking ranks last l n (k + 1) next
   look-turn {k} {best} {next} v u h e =
       let at : getD (take n l) k 0 ≡ getD l k 0 = getD-take n l k 0 h in
       let opened = drop-cons (take n l) k 0 (omega (arith, long v)) in
@@ -155,14 +155,96 @@ module _ {ranks : List ℕ} {w : List Bool} {j last : ℕ} {l : List ℕ} {n : �
         within = omega arith;
         ends =
             rw add-one
-            (ap (λ (b : ℕ). bestBy ranks w j last b (drop (suc k) (take n l))) (e ∙ ap (λ (i : ℕ). choose (comesBy ranks (heardBy w j i) last best i) i best) (sym at))
-            ∙ ap (bestBy ranks w j last best) (sym opened)
+            (ap (λ (b : ℕ). bestIn ranks last b (drop (suc k) (take n l))) (e ∙ ap (λ (i : ℕ). choose (comesBy ranks true last best i) i best) (sym at))
+            ∙ ap (bestIn ranks last best) (sym opened)
             ∙ u .ends);
       }
 
-  pub look-end : {k best : ℕ} → Listed l n → Looking ranks w j last l n k best → n ≤ k → best ≡ bestBy ranks w j last 16 (take n l)
+  pub look-end : {k best : ℕ} → Listed l n → Looking ranks last l n k best → n ≤ k → best ≡ bestIn ranks last 16 (take n l)
   look-end {k} {best} v u h =
-      ap (bestBy ranks w j last best) (sym (drop-of-length-le (take n l) (let g : length (take n l) ≤ k = omega (arith, long v) in g))) ∙ u .ends
+      ap (bestIn ranks last best) (sym (drop-of-length-le (take n l) (let g : length (take n l) ≤ k = omega (arith, long v) in g))) ∙ u .ends
+
+-- the best of those that are heard is the best of all
+pub best-heard : (ranks : List ℕ) (w : List Bool) (j last best : ℕ) (is : List ℕ) → bestIn ranks last best (heardOf w j is) ≡ bestBy ranks w j last best is
+unfolding heardOf
+best-heard ranks w j last best [] = refl
+best-heard ranks w j last best (i ∷ is) =
+    on (tested (heardBy w j i))
+    (λ t.
+    ap (λ (x : List ℕ). bestIn ranks last best (x ++ heardOf w j is)) (chosen [] t)
+    ∙ best-heard ranks w j last (choose (comesBy ranks true last best i) i best) is
+    ∙ ap (λ (x : Bool). bestBy ranks w j last (choose (comesBy ranks x last best i) i best) is) (sym t))
+    (λ t.
+    ap (λ (x : List ℕ). bestIn ranks last best (x ++ heardOf w j is)) (other (i ∷ []) t)
+    ∙ best-heard ranks w j last best is
+    ∙ ap (λ (x : ℕ). bestBy ranks w j last x is) (sym (other i (and-left _ t))))
+
+-- ---- the list of those that are heard
+
+heard-snoc : (w : List Bool) (j : ℕ) (is : List ℕ) (i : ℕ) → heardOf w j (is ++ (i ∷ [])) ≡ heardOf w j is ++ choose (heardBy w j i) (i ∷ []) []
+unfolding heardOf
+heard-snoc w j [] i = append-nil _
+heard-snoc w j (x ∷ is) i =
+    ap (λ (l : List ℕ). choose (heardBy w j x) (x ∷ []) [] ++ l) (heard-snoc w j is i) ∙ sym (append-assoc (choose (heardBy w j x) (x ∷ []) []) (heardOf w j is) _)
+
+-- of the first k places of l, those that place j hears are the first m of near
+pub record Nearing (w : List Bool) (j : ℕ) (l near : List ℕ) (m k : ℕ) : Type 0 where
+  pub room : length near ≡ 16
+  pub within : k ≤ 16
+  pub few : m ≤ k
+  pub these : take m near ≡ heardOf w j (take k l)
+  pub known : (x : ℕ) → x < m → getD near x 0 < 16
+
+near-more :
+    (w : List Bool) (j : ℕ) (l near : List ℕ) (m k b : ℕ) → length near ≡ 16 → m < 16 → k < length l → take m near ≡ heardOf w j (take k l) → b ≡ choose (heardBy w j (getD l k 0)) 1 0 →
+    take (m + b) (set near m (getD l k 0)) ≡ heardOf w j (take (k + 1) l)
+near-more w j l near m k b room g h these e =
+    let i = getD l k 0 in
+    let next : heardOf w j (take (suc k) l) ≡ heardOf w j (take k l) ++ choose (heardBy w j i) (i ∷ []) [] = ap (heardOf w j) (take-suc l k 0 h) ∙ heard-snoc w j (take k l) i in
+    on (tested (heardBy w j i))
+    (λ t.
+    let one : b ≡ 1 = e ∙ chosen 0 t in
+    rw (one, add-one, add-one)
+    (take-suc-set near m i (omega arith) ∙ ap (λ (x : List ℕ). x ++ (i ∷ [])) these ∙ sym (next ∙ ap (λ (x : List ℕ). heardOf w j (take k l) ++ x) (chosen [] t))))
+    (λ t.
+    let none : b ≡ 0 = e ∙ other 1 t in
+    let stays : m + 0 ≡ m = omega arith in
+    rw (none, stays, add-one)
+    (take-set-le m near m i (omega arith) ∙ these ∙ sym (next ∙ ap (λ (x : List ℕ). heardOf w j (take k l) ++ x) (other (i ∷ []) t) ∙ append-nil _)))
+
+module _ {w : List Bool} {j : ℕ} {l : List ℕ} where
+  pub near-begin : {near : List ℕ} → length near ≡ 16 → Nearing w j l near 0 0
+  unfolding heardOf
+  near-begin e = record { room = e; within = omega arith; few = omega arith; these = refl; known = λ x h. absurd (omega arith) }
+
+  pub near-turn :
+      {near : List ℕ} {n m k b : ℕ} → Listed l n → Nearing w j l near m k → k < n → b ≡ choose (heardBy w j (getD l k 0)) 1 0 →
+      Nearing w j l (set near m (getD l k 0)) (m + b) (k + 1)
+  near-turn {near} {n} {m} {k} {b} v u h e =
+      let bit = bit-small (heardBy w j (getD l k 0)) in
+      let i = getD l k 0 in
+      record {
+        room = length-set near m i ∙ u .room;
+        within = omega (arith, v .few);
+        few = omega (arith, u .few, e);
+        these = near-more w j l near m k b (u .room) (omega (arith, u .few, v .few)) (omega (arith, v .few, v .room)) (u .these) e;
+        known =
+            λ x g.
+            ⊎-elim
+            (λ z. let q : getD (set near m i) x 0 ≡ getD near x 0 = getD-set-other near m x i 0 (λ y. omega arith) in omega (arith, u .known x z))
+            (λ z.
+            let y : x ≡ m = omega (arith, e) in
+            rw y (let q : getD (set near m i) m 0 ≡ i = getD-set-same near m i 0 (omega (arith, u .few, u .room, v .few)) in omega (arith, v .places k h)))
+            (less x m);
+      }
+
+  pub near-end : {near : List ℕ} {n m k : ℕ} → Listed l n → Nearing w j l near m k → k ≤ n → n ≤ k → Near w j (take n l) near m
+  near-end {near} {n} {m} {k} v u a b =
+      let same : k ≡ n = omega arith in
+      record {
+        listed = record { few = omega (arith, u .few, v .few); room = u .room; places = u .known };
+        these = u .these ∙ ap (λ (x : ℕ). heardOf w j (take x l)) same;
+      }
 
 -- ---- all that is heard, sender by sender
 
@@ -221,14 +303,14 @@ pub none-after : (c : State) (j n last : ℕ) → 16 ≤ nextSender c j last →
 unfolding sendersAfter
 none-after c j n last h = rw (le-ltb (nextSender c j last) 16 h, sendersAfter)
 
-some-by : (r : SenderList) (w : List Bool) (j n last i : ℕ) → i ≡ nextBy r w j last → i < 16 → sendersBy r w j (suc n) last ≡ i ∷ sendersBy r w j n i
+pub some-by : (r : SenderList) (w : List Bool) (j n last i : ℕ) → i ≡ nextBy r w j last → i < 16 → sendersBy r w j (suc n) last ≡ i ∷ sendersBy r w j n i
 unfolding sendersBy
 some-by r w j n last i e l = subst (λ (y : ℕ). _≡_ {A = List ℕ} (elim (ltb y 16) [ true ↦ y ∷ sendersBy r w j n y | false ↦ [] ]) (i ∷ sendersBy r w j n i)) e here
   where
     here : _≡_ {A = List ℕ} (elim (ltb i 16) [ true ↦ i ∷ sendersBy r w j n i | false ↦ [] ]) (i ∷ sendersBy r w j n i)
     here = rw (lt-ltb i 16 l)
 
-none-by : (r : SenderList) (w : List Bool) (j n last i : ℕ) → i ≡ nextBy r w j last → 16 ≤ i → sendersBy r w j (suc n) last ≡ []
+pub none-by : (r : SenderList) (w : List Bool) (j n last i : ℕ) → i ≡ nextBy r w j last → 16 ≤ i → sendersBy r w j (suc n) last ≡ []
 unfolding sendersBy
 none-by r w j n last i e l = subst (λ (y : ℕ). _≡_ {A = List ℕ} (elim (ltb y 16) [ true ↦ y ∷ sendersBy r w j n y | false ↦ [] ]) []) e here
   where
@@ -348,9 +430,6 @@ module _ (r : SenderList) (w : List Bool) (j : ℕ) (v : Numbers r) (one : r .co
       heard-more r w j 0 16 only (omega arith) next only-place refl
       ∙ ap (λ (x : List Heartbeat). sentBy (senderOf (getD (r .ranks) only 0) (getD (r .sendings) only 0)) ++ x) (heard-none r w j (16 - (0 + 1)) only 16 (sym no-more) (omega arith))
       ∙ append-nil _
-
-  pub only-unheard : heardBy w j only ≡ false → inboxBy r w j ≡ []
-  only-unheard e = heard-none r w j 16 16 16 (sym (next-of 16 ∙ other _ (comes-first ∙ e))) (omega arith)
 
 -- ---- where a place hears nobody
 

@@ -50,6 +50,3 @@ none-below l v (suc n) h = rw (none-below l v n (omega arith)) (silent-number (g
 -- where the greatest is 0, nobody sent
 pub loud-quiet : {l : List Server} {r : ℕ} → Loud l r → r ≡ 0 → anySent l ≡ false
 loud-quiet {l} {r} v e = none-below l (subst (Loud l) e v) 16 (omega arith)
-
-pub loud-as : {l m : List Server} {r : ℕ} → l ≡ m → Loud l r → Loud m r
-loud-as {l} {m} {r} e v = subst (λ (x : List Server). Loud x r) e v

@@ -22,7 +22,7 @@ use Rattle.frames.specs.Answers.{stateOf}
 use Rattle.group.proofs.Places.{frame-after}
 use Rattle.frames.proofs.Writing.{Toward, start, begin, turn, finish}
 use Rattle.frames.proofs.Quiet.{ticks-frame, skip}
-use Rattle.frames.proofs.Still.{still-after, ranked-after}
+use Rattle.frames.proofs.Still.{still-after}
 
 pub advanced-add : (k m : ℕ) (c : State) → advancedBy (k + m) c ≡ advancedBy m (advancedBy k c)
 unfolding advancedBy
@@ -73,7 +73,7 @@ module _ (c : State) (target : ℕ) {wet : Bool} {d : List ℕ} {at : ℕ} where
 -- ---- over frames in which nothing happens
 
 -- to the present frame
-pub jump-none : (p : Period) (l : List Server) {t target loud : ℕ} → t ≤ target → Jumps p l t target loud t
+pub jump-none : (p : Period) (l : List Server) {t target : ℕ} → t ≤ target → Jumps p l t target t
 unfolding advancedBy linesBy
 jump-none p l {t} {target} h =
     let z : t - t ≡ 0 = omega arith in
@@ -86,8 +86,8 @@ jump-none p l {t} {target} h =
 
 -- to one before the first timer
 pub jump-quiet :
-    (p : Period) (l : List Server) {t target loud f r : ℕ} → anySent l ≡ false → length l ≡ 16 → AllRest t p l f → Before f t target r → Jumps p l t target loud r
-jump-quiet p l {t} {target} {loud} {f} {r} quiet long rest b =
+    (p : Period) (l : List Server) {t target f r : ℕ} → anySent l ≡ false → length l ≡ 16 → AllRest t p l f → Before f t target r → Jumps p l t target r
+jump-quiet p l {t} {target} {f} {r} quiet long rest b =
     let from = b .from in
     let to = b .to in
     let sum : t + (r - t) ≡ r = omega arith in
@@ -101,9 +101,9 @@ jump-quiet p l {t} {target} {loud} {f} {r} quiet long rest b =
 
 -- the steps after a jump, from where it began
 pub jumped :
-    (c : State) {target loud s n : ℕ} {wet : Bool} {d : List ℕ} {at : ℕ} {r : Stepped} {d′ : List ℕ} → Jumps (c .period) (c .servers) (c .frame) target loud s →
+    (c : State) {target s n : ℕ} {wet : Bool} {d : List ℕ} {at : ℕ} {r : Stepped} {d′ : List ℕ} → Jumps (c .period) (c .servers) (c .frame) target s →
     Steps wet n (movedTo c s (c .servers)) d at r d′ → Steps wet ((s - c .frame) + n) c d at r d′
-jumped c {target} {loud} {s} {n} {wet} {d} {at} {r} {d′} j w =
+jumped c {target} {s} {n} {wet} {d} {at} {r} {d′} j w =
     let k = s - c .frame in
     let there = j .same (c .whole) in
     record {
@@ -116,9 +116,9 @@ jumped c {target} {loud} {s} {n} {wet} {d} {at} {r} {d′} j w =
 
 -- a jump, and the next frame
 pub goes-jump :
-    (c : State) {target loud s : ℕ} {wet : Bool} {d : List ℕ} {at : ℕ} {r : Stepped} {d′ : List ℕ} → c .frame < target → Jumps (c .period) (c .servers) (c .frame) target loud s →
+    (c : State) {target s : ℕ} {wet : Bool} {d : List ℕ} {at : ℕ} {r : Stepped} {d′ : List ℕ} → c .frame < target → Jumps (c .period) (c .servers) (c .frame) target s →
     Steps wet (choose (ltb s target) 1 0) (movedTo c s (c .servers)) d at r d′ → Goes wet c target d at r d′
-goes-jump c {target} {loud} {s} {wet} {d} {at} {r} {d′} h j w =
+goes-jump c {target} {s} {wet} {d} {at} {r} {d′} h j w =
     let k = s - c .frame in
     let from = j .from in
     let to = j .to in
@@ -192,6 +192,3 @@ module _ {wet : Bool} {k : ℕ} {c : State} {d : List ℕ} {at : ℕ} {r : Stepp
 
   pub steps-still : {n : ℕ} → Still n (c .servers) → Still n (r .servers)
   steps-still {n} v = subst (Still n) servers-then (still-after k c long v)
-
-  pub steps-ranked : {v : List ℕ} → Ranked v (c .servers) → Ranked v (r .servers)
-  steps-ranked {v} q = subst (Ranked v) servers-then (ranked-after k c long q)

@@ -150,9 +150,6 @@ rest-turn {t} {p} {l} {i} {a} {b} {r} v h w e =
           (less k i);
     }
 
-pub rest-end : {t : ℕ} {p : Period} {l : List Server} {i r : ℕ} → Resting t p l i r → 16 ≤ i → AllRest t p l r
-rest-end v h = record { all = λ k g. v .so-far k (omega arith) }
-
 -- where no timer is due, nothing is done
 module _ (t : ℕ) (p : Period) (s : Server) where
   calm-in :

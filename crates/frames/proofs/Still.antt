@@ -85,7 +85,7 @@ module _ (s : Server) (e : isStill s ≡ true) where
   still-role : StillRole s
   still-role = role-of-still s (s .role) refl e
 
-  still-clear : cleared s ≡ s
+  pub still-clear : cleared s ≡ s
   still-clear = clear-already s still-unsent
 
   -- it hears nothing
@@ -104,7 +104,7 @@ module _ (s : Server) (e : isStill s ≡ true) where
       by (idle q) = so Idle q refl refl
       by (sync q) = so Sync q refl refl
 
-  still-heard : (t : ℕ) (hs : List Heartbeat) → (heardAll t s hs ≡ s) × (heardLines t s hs ≡ [])
+  pub still-heard : (t : ℕ) (hs : List Heartbeat) → (heardAll t s hs ≡ s) × (heardLines t s hs ≡ [])
   unfolding heardAll heardLines linesOf
   still-heard t [] = (refl, refl)
   still-heard t (h ∷ hs) =
@@ -167,7 +167,7 @@ module _ {l : List Server} {n : ℕ} (v : Still n l) (long : length l ≡ 16) (j
   pub ticks-early : (t : ℕ) (p : Period) → 0 < t → tickLines t p (drop j l) ≡ []
   ticks-early t p k = none-ticked t p (drop j l) k dropped
 
--- ---- frame after frame: the still stay as they are, and the ranks of all
+-- ---- frame after frame: the still stay as they are
 
 pub still-after : (k : ℕ) (c : State) {n : ℕ} → length (c .servers) ≡ 16 → Still n (c .servers) → Still n (advancedBy k c .servers)
 unfolding advancedBy
@@ -180,22 +180,4 @@ still-after (suc k) c {n} long v =
           λ i h g.
           subst (λ (s : Server). isStill s ≡ true)
           (sym (place-advanced c i (omega arith) ∙ still-turned (place c i) (v .still i h g) c (c .frame + 1) i (omega arith) .0)) (v .still i h g);
-    })
-
-turned-rank : (c : State) (t j : ℕ) (s : Server) → rankOf (turned c t j s) ≡ rankOf s
-unfolding turned hearing
-turned-rank c t j s = rank-ticked (c .period) t (heardAll t (cleared s) (inbox c j)) ∙ rank-heard t (cleared s) (inbox c j)
-
-pub ranked-after : (k : ℕ) (c : State) {v : List ℕ} → length (c .servers) ≡ 16 → Ranked v (c .servers) → Ranked v (advancedBy k c .servers)
-unfolding advancedBy
-ranked-after zero c long r = r
-ranked-after (suc k) c {v} long r =
-    ranked-after k (advanced c) (long-advanced c ∙ long)
-    (record {
-      ranks =
-          λ i h.
-          r .ranks i h
-          ∙ ap (λ (x : Rank). x .priority * 65536 + x .identity)
-          (sym (ap rankOf (place-advanced c i (omega arith)) ∙ turned-rank c (c .frame + 1) i (place c i)));
-      small = r .small;
     })

@@ -204,57 +204,6 @@ module _ (w : List ℕ) (i : ℕ) (s : Server) (long : length w ≡ 80) (h : i <
       (λ e. stored-there j e ∙ sym (getD-set-other (serversOf w) i j s absent e ∙ at-of w j absent (omega arith)))
       (equal j i))
 
--- ---- a server that listens: its silence timer set, and nothing sent
-
-module _ (w : List ℕ) (i t : ℕ) (long : length w ≡ 80) (h : i < 16) where
-  abbrev timer : List ℕ
-  timer = set w (5 * i + 1) t
-
-  abbrev pub heard2 : List ℕ
-  heard2 = set timer (5 * i + 4) 0
-
-  timer-long : length timer ≡ 80
-  timer-long = length-set w (5 * i + 1) t ∙ long
-
-  pub heard-long : length heard2 ≡ 80
-  heard-long = length-set timer (5 * i + 4) 0 ∙ timer-long
-
-  heard-kept : (m : ℕ) → m ≢ 5 * i + 1 → m ≢ 5 * i + 4 → getD heard2 m 0 ≡ getD w m 0
-  heard-kept m a b = getD-set-other timer (5 * i + 4) m 0 0 b ∙ getD-set-other w (5 * i + 1) m t 0 a
-
-  heard-here : serverAt heard2 i ≡ setSilence t (cleared (serverAt w i))
-  unfolding serverOf
-  heard-here =
-      rw (
-        heard-kept (5 * i) (λ z. omega arith) (λ z. omega arith),
-        heard-kept (5 * i + 2) (λ z. omega arith) (λ z. omega arith),
-        heard-kept (5 * i + 3) (λ z. omega arith) (λ z. omega arith),
-        getD-set-other timer (5 * i + 4) (5 * i + 1) 0 0 (λ z. omega arith) ∙ getD-set-same w (5 * i + 1) t 0 (omega arith),
-        getD-set-same timer (5 * i + 4) 0 0 (omega (arith, timer-long)),
-      )
-
-  heard-there : (j : ℕ) → j ≢ i → serverAt heard2 j ≡ serverAt w j
-  heard-there j n =
-      rw (
-        heard-kept (5 * j) (λ z. n (omega arith)) (λ z. n (omega arith)),
-        heard-kept (5 * j + 1) (λ z. n (omega arith)) (λ z. n (omega arith)),
-        heard-kept (5 * j + 2) (λ z. n (omega arith)) (λ z. n (omega arith)),
-        heard-kept (5 * j + 3) (λ z. n (omega arith)) (λ z. n (omega arith)),
-        heard-kept (5 * j + 4) (λ z. n (omega arith)) (λ z. n (omega arith)),
-      )
-
-  pub heard-is : serversOf heard2 ≡ set (serversOf w) i (setSilence t (cleared (getD (serversOf w) i absent)))
-  heard-is =
-      let s = setSilence t (cleared (getD (serversOf w) i absent)) in
-      ext-getD absent (serversOf heard2) (set (serversOf w) i s) (long-of heard2 ∙ sym (length-set (serversOf w) i s ∙ long-of w))
-      (λ j g.
-      let l = long-of heard2 in
-      at-of heard2 j absent (omega arith)
-      ∙ ⊎-elim
-      (λ e. rw e (heard-here ∙ ap (λ (x : Server). setSilence t (cleared x)) (sym (at-of w i absent h)) ∙ sym (getD-set-same (serversOf w) i s absent (omega (arith, long-of w)))))
-      (λ e. heard-there j e ∙ sym (getD-set-other (serversOf w) i j s absent e ∙ at-of w j absent (omega arith)))
-      (equal j i))
-
 -- ---- one number of a server stored
 
 module _ (w : List ℕ) (i k v : ℕ) (long : length w ≡ 80) (h : i < 16) (g : k < 5) where

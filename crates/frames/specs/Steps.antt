@@ -66,6 +66,31 @@ isPrimary Backup = false
 isPrimary Prospect = false
 isPrimary Primary = true
 
+abbrev pub isProspect : Role → Bool
+isProspect Down = false
+isProspect Idle = false
+isProspect Sync = false
+isProspect Backup = false
+isProspect Prospect = true
+isProspect Primary = false
+
+-- it hears, and has a timer
+abbrev pub takesPart : Role → Bool
+takesPart Down = false
+takesPart Idle = false
+takesPart Sync = false
+takesPart Backup = true
+takesPart Prospect = true
+takesPart Primary = true
+
+-- the prospect s is not below the rank r
+abbrev pub staysUnder : Server → ℕ → Bool
+staysUnder s r = isProspect (s .role) && leb r (rankNumber s)
+
+-- the backup s is below the rank r of a sender that sent n, and passed to nobody
+abbrev pub heedsOnly : Server → ℕ → ℕ → Bool
+heedsOnly s r n = isBackup (s .role) && (ltb (rankNumber s) r && (not (eqb n 0) && eqb (n % 65536) 0))
+
 -- a backup hears plain beats, and nothing else, of the sender x
 abbrev pub onlyListens : Server → Server → Bool
 onlyListens s x = isBackup (s .role) && (not (eqb (x .beats) 0) && (not (x .reveal) && eqb (x .pass) 0))
@@ -199,6 +224,21 @@ abbrev pub bestBy : List ℕ → List Bool → ℕ → ℕ → ℕ → List ℕ 
 bestBy ranks w j last best [] = best
 bestBy ranks w j last best (i ∷ is) = bestBy ranks w j last (choose (comesBy ranks (heardBy w j i) last best i) i best) is
 
+-- of the places is, those that place j hears
+unfoldable pub heardOf : List Bool → ℕ → List ℕ → List ℕ
+heardOf w j [] = []
+heardOf w j (i ∷ is) = choose (heardBy w j i) (i ∷ []) [] ++ heardOf w j is
+
+-- the best of places that are heard
+abbrev pub bestIn : List ℕ → ℕ → ℕ → List ℕ → ℕ
+bestIn ranks last best [] = best
+bestIn ranks last best (i ∷ is) = bestIn ranks last (choose (comesBy ranks true last best i) i best) is
+
+-- the first m of near are those of the places is that place j hears
+pub record Near (w : List Bool) (j : ℕ) (is near : List ℕ) (m : ℕ) : Type 0 where
+  pub listed : Listed near m
+  pub these : take m near ≡ heardOf w j is
+
 abbrev pub nextBy : SenderList → List Bool → ℕ → ℕ → ℕ
 nextBy r w j last = bestBy (r .ranks) w j last most (take (r .count) (r .places))
 
@@ -224,7 +264,15 @@ pub record Hearers (l : List ℕ) (w : List Bool) (n : ℕ) (r : List Bool) : Ty
   pub room : length r ≡ most
   pub none : (j : ℕ) → j < most → getD r j false ≡ false → (k : ℕ) → k < n → heardBy w j (getD l k 0) ≡ false
 
+-- none of the first n places is in h
+pub record Deaf (h : List Bool) (n : ℕ) : Type 0 where
+  pub none : (j : ℕ) → j < n → getD h j false ≡ false
+
 -- ---- a frame
+
+-- what the server of a place sent, cleared
+abbrev pub clearing : ℕ → Server → Server
+clearing j s = cleared s
 
 -- all servers after a frame, and the place after what they said
 pub record Ran : Type 0 where
@@ -243,12 +291,6 @@ tickLines t p (s ∷ l) = timedLines t (s .identity) (timed t p s) ++ tickLines 
 
 abbrev pub ticked : ℕ → Period → ℕ → Server → Server
 ticked t p j s = timed t p s .server
-
--- the turn of place j, of which a server comes
-pub record TurnsAt (hs : List Heartbeat) (t : ℕ) (p : Period) (wet : Bool) (l : List Server) (j : ℕ) (d : List ℕ) (at : ℕ) (r : Ran) (d′ : List ℕ) : Type 0 where
-  pub server : Server
-  pub servers : r .servers ≡ set l j server
-  pub turns : Turns hs t p wet (getD l j absent) d at (record { server = server; at = r .at }) d′
 
 -- the timers of place j
 pub record TicksAt (wet : Bool) (t : ℕ) (p : Period) (l : List Server) (j : ℕ) (d : List ℕ) (at : ℕ) (r : Ran) (d′ : List ℕ) : Type 0 where
@@ -297,7 +339,7 @@ pub record Steps (wet : Bool) (n : ℕ) (c : State) (d : List ℕ) (at : ℕ) (r
   pub out : Out wet d at (linesBy n c) (r .at) d′
 
 -- r is a frame from t to the target, later than t only where nobody sent, and up to it nothing happens, whatever the links
-pub record Jumps (p : Period) (l : List Server) (t target loud r : ℕ) : Type 0 where
+pub record Jumps (p : Period) (l : List Server) (t target r : ℕ) : Type 0 where
   pub from : t ≤ r
   pub to : r ≤ target
   pub same : (w : List Bool) → advancedBy (r - t) (stateOf t p l w) ≡ stateOf r p l w

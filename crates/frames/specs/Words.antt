@@ -50,5 +50,6 @@ unfoldable pub serversFrom : ℕ → ℕ → List ℕ → List Server
 serversFrom zero k w = []
 serversFrom (suc n) k w = serverAt w k ∷ serversFrom n (suc k) w
 
+-- all of them. Contracts speak of numbers through this; of several numbers that stand for the same servers they leave open which there are
 abbrev pub serversOf : List ℕ → List Server
 serversOf w = serversFrom most 0 w

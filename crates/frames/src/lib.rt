@@ -28,8 +28,8 @@ ghost use Rattle.group.specs.Hearing.{isPlace};
 ghost use Rattle.group.specs.Frame.{timedLines, frameLines};
 ghost use Rattle.group.specs.Advance.{timeGoes, withinGoes};
 ghost use Rattle.frames.specs.Words.{roleOf, rankNumber, sendingNumber, serverOf, serversOf};
-ghost use Rattle.frames.specs.Answers.{stateOf, Advances};
-ghost use Rattle.frames.specs.Steps.{Out, Hears, Does, JustListens, TurnsAt, isBackup, isPrimary, onlyListens, senderOf, Ranked, isStill, Still, overBy, comesBy, bestBy, inboxBy, Listed, Numbers, Sends, Lists, Turns, ticksIn, Runs, TicksAt, TicksAll, Moves, NotDue, Rests, AllRest, Before, Steps, Goes, Loud, Jumps, mostBytes, Fares, Stretches, MovesWithin, pulsed, Waits, AllWait, Calm, Beats, HeardAlso, Hearers};
+ghost use Rattle.frames.specs.Answers.{stateOf, Advances, AdvancesIn};
+ghost use Rattle.frames.specs.Steps.{Out, Hears, Does, isProspect, takesPart, staysUnder, heedsOnly, JustListens, isBackup, isPrimary, onlyListens, senderOf, Ranked, isStill, Still, overBy, comesBy, bestIn, Near, inboxBy, Deaf, clearing, Listed, Numbers, Sends, Lists, Turns, ticksIn, Runs, TicksAt, TicksAll, Moves, NotDue, Rests, AllRest, Before, Steps, Goes, Loud, Jumps, mostBytes, Fares, Stretches, MovesWithin, pulsed, Waits, AllWait, Calm, Beats, HeardAlso, Hearers};
 
 // The lines of an event, written or only counted.
 fn say_event(out: &mut [u8], wet: bool, at: usize, frame: u32, identity: u16, event: Event) -> usize
@@ -351,8 +351,7 @@ pub fn server(words: &[u32; 80], i: usize) -> Server
     }
 }
 
-// The server of place i replaced; nothing beyond the last place.
-pub fn stored(words: [u32; 80], i: usize, s: Server) -> [u32; 80]
+fn stored(words: [u32; 80], i: usize, s: Server) -> [u32; 80]
     ensures { λ r. ⌜ serversOf r ≡ set (serversOf words) i s ⌝ }
 {
     let mut next = words;
@@ -360,6 +359,14 @@ pub fn stored(words: [u32; 80], i: usize, s: Server) -> [u32; 80]
         store(&mut next, i, s);
     }
     next
+}
+
+// The server of place i replaced; nothing beyond the last place.
+pub fn put(words: &mut [u32; 80], i: usize, s: Server)
+    ensures { λ _. ⌜ serversOf (now (words .exit)) ≡ set (serversOf (now (words .entry))) i s ⌝ }
+{
+    let next = stored(*words, i, s);
+    *words = next;
 }
 
 // The place of an identity; beyond the last place where there is none.
@@ -392,19 +399,26 @@ fn ranks_of(words: &[u32; 80]) -> [u32; 16]
 
 // ---- who does nothing until a verb
 
+// Hears, and has a timer.
+fn takes_part(role: Role) -> bool
+    ensures { λ r. ⌜ r ≡ takesPart role ⌝ }
+{
+    match role {
+        Role::Down => false,
+        Role::Idle => false,
+        Role::Sync => false,
+        Role::Backup => true,
+        Role::Prospect => true,
+        Role::Primary => true,
+    }
+}
+
 // Neither hears nor has a timer, and sent nothing.
 fn is_still(s: Server) -> bool
     ensures { λ r. ⌜ r ≡ isStill s ⌝ }
 {
     let role = s.role;
-    match role {
-        Role::Down => !s.sent_any(),
-        Role::Idle => !s.sent_any(),
-        Role::Sync => !s.sent_any(),
-        Role::Backup => false,
-        Role::Prospect => false,
-        Role::Primary => false,
-    }
+    !takes_part(role) & !s.sent_any()
 }
 
 // From this place on, all are still: they are left out of every loop.
@@ -494,7 +508,7 @@ fn over_best(ranks: &[u32; 16], best: usize, i: usize) -> bool
 }
 
 // Of place i, which is heard, and the best so far.
-fn better_of(ranks: &[u32; 16], last: usize, best: usize, i: usize) -> usize
+fn better(ranks: &[u32; 16], last: usize, best: usize, i: usize) -> usize
     requires { ⌜ i < 16 ⌝ }
     ensures { λ r. ⌜ r ≡ choose (comesBy (now (ranks .entry)) Bool.true last best i) i best ⌝ }
 {
@@ -505,62 +519,104 @@ fn better_of(ranks: &[u32; 16], last: usize, best: usize, i: usize) -> usize
     }
 }
 
-fn better(ranks: &[u32; 16], heard: bool, last: usize, best: usize, i: usize) -> usize
-    requires { ⌜ i < 16 ⌝ }
-    ensures { λ r. ⌜ r ≡ choose (comesBy (now (ranks .entry)) heard last best i) i best ⌝ }
+fn one_for(set: bool) -> usize
+    ensures { λ r. ⌜ r ≡ choose set 1 0 ⌝ }
 {
-    if heard {
-        better_of(ranks, last, best, i)
-    } else {
-        best
-    }
+    if set { 1 } else { 0 }
 }
 
-// The next place that place j hears after the place last, or 16.
-fn next_sender(
+// The places of the first `count` listed that place j hears, in their order: how many they are.
+fn list_heard(
     places: &[usize; 16],
-    ranks: &[u32; 16],
     whole: &[bool; 256],
+    near: &mut [usize; 16],
     count: usize,
     j: usize,
-    last: usize,
 ) -> usize
-    requires { ⌜ (j < 16) × Listed (now places) count ⌝ }
-    ensures { λ r. ⌜ r ≡ bestBy (now (ranks .entry)) (now (whole .entry)) j last 16 (take count (now (places .entry))) ⌝ }
+    requires { ⌜ (j < 16) × (Listed (now places) count × (length (now near) ≡ 16)) ⌝ }
+    ensures { λ r. ⌜ Near (now (whole .entry)) j (take count (now (places .entry))) (now (near .exit)) r ⌝ }
 {
-    let mut best: usize = 16;
+    let mut m: usize = 0;
     let mut k: usize = 0;
     while k < count {
         let i = places[k];
-        let heard = (i != j) & whole[16 * i + j];
-        best = better(ranks, heard, last, best, i);
+        near[m] = i;
+        m += one_for((i != j) & whole[16 * i + j]);
+        k += 1;
+    }
+    m
+}
+
+// The next of the first m places near after the place last, or 16.
+fn next_sender(near: &[usize; 16], ranks: &[u32; 16], m: usize, last: usize) -> usize
+    requires { ⌜ Listed (now near) m ⌝ }
+    ensures { λ r. ⌜ r ≡ bestIn (now (ranks .entry)) last 16 (take m (now (near .entry))) ⌝ }
+{
+    let mut best: usize = 16;
+    let mut k: usize = 0;
+    while k < m {
+        best = better(ranks, last, best, near[k]);
         k += 1;
     }
     best
 }
 
-// What place j hears where one place sent.
-fn hear_only(
-    places: &[usize; 16],
-    ranks: &[u32; 16],
-    sendings: &[u32; 16],
-    whole: &[bool; 256],
-    frame: u32,
-    j: usize,
+fn is_prospect(role: Role) -> bool
+    ensures { λ r. ⌜ r ≡ isProspect role ⌝ }
+{
+    match role {
+        Role::Down => false,
+        Role::Idle => false,
+        Role::Sync => false,
+        Role::Backup => false,
+        Role::Prospect => true,
+        Role::Primary => false,
+    }
+}
+
+// A prospect stays one whatever it hears of a sender of this rank, and of those below it.
+fn stays(s: Server, rank: u32) -> bool
+    ensures { λ r. ⌜ (r ≡ staysUnder s rank) × (s .identity < 65536) ⌝ }
+{
+    let role = s.role;
+    is_prospect(role) & (rank <= rank_number(s))
+}
+
+// A backup only listens to a higher sender that passes to nobody.
+fn heeds(s: Server, rank: u32, sending: u32) -> bool
+    ensures { λ r. ⌜ (r ≡ heedsOnly s rank sending) × (s .identity < 65536) ⌝ }
+{
+    let role = s.role;
+    is_backup(role) & ((rank > rank_number(s)) & ((sending != 0) & (sending % 65536 == 0)))
+}
+
+fn attend(s: Server, frame: u32) -> Server
+    ensures { λ r. ⌜ r ≡ setSilence frame s ⌝ }
+{
+    let mut next = s;
+    next.silence = frame;
+    next
+}
+
+// All that the sender of such numbers sent.
+fn hear_from(
     s: Server,
+    frame: u32,
+    rank: u32,
+    sending: u32,
     out: &mut [u8],
     wet: bool,
     at: usize,
 ) -> Told
-    requires { ⌜ (j < 16) × Numbers (record { places = now places; ranks = now ranks; sendings = now sendings; count = 1 }) ⌝ }
-    ensures { λ r. ⌜ Hears frame wet s (inboxBy (record { places = now (places .entry); ranks = now (ranks .entry); sendings = now (sendings .entry); count = 1 }) (now (whole .entry)) j) (now (out .entry)) at r (now (out .exit)) ⌝ }
+    requires { ⌜ (rank < 16777216) × (sending < 33554432) ⌝ }
+    ensures { λ r. ⌜ Hears frame wet s (sentBy (senderOf rank sending)) (now (out .entry)) at r (now (out .exit)) ⌝ }
 {
-    let i = places[0];
-    if (i != j) & whole[16 * i + j] {
-        let from = sender(ranks[i], sendings[i]);
-        hear_each(s, frame, from, out, wet, at)
+    if heeds(s, rank, sending) {
+        let next = attend(s, frame);
+        Told { server: next, at }
     } else {
-        Told { server: s, at }
+        let from = sender(rank, sending);
+        hear_each(s, frame, from, out, wet, at)
     }
 }
 
@@ -581,59 +637,27 @@ fn hear_several(
     requires { ⌜ (j < 16) × Numbers (record { places = now places; ranks = now ranks; sendings = now sendings; count = count }) ⌝ }
     ensures { λ r. ⌜ Hears frame wet s (inboxBy (record { places = now (places .entry); ranks = now (ranks .entry); sendings = now (sendings .entry); count = count }) (now (whole .entry)) j) (now (out .entry)) at r (now (out .exit)) ⌝ }
 {
+    let mut near: [usize; 16] = [0; 16];
+    let m = list_heard(places, whole, &mut near, count, j);
     let mut now = s;
     let mut r = at;
     let mut last: usize = 16;
     let mut k: usize = 0;
     while k < 16 {
-        let i = next_sender(places, ranks, whole, count, j, last);
+        let i = next_sender(&near, ranks, m, last);
         if i >= 16 {
             return Told { server: now, at: r };
         }
-        let from = sender(ranks[i], sendings[i]);
-        let t = hear_each(now, frame, from, out, wet, r);
+        if stays(now, ranks[i]) {
+            return Told { server: now, at: r };
+        }
+        let t = hear_from(now, frame, ranks[i], sendings[i], out, wet, r);
         now = t.server;
         r = t.at;
         last = i;
         k += 1;
     }
     Told { server: now, at: r }
-}
-
-// All that place j hears.
-fn hear_all(
-    places: &[usize; 16],
-    ranks: &[u32; 16],
-    sendings: &[u32; 16],
-    whole: &[bool; 256],
-    count: usize,
-    frame: u32,
-    j: usize,
-    s: Server,
-    out: &mut [u8],
-    wet: bool,
-    at: usize,
-) -> Told
-    requires { ⌜ (j < 16) × Numbers (record { places = now places; ranks = now ranks; sendings = now sendings; count = count }) ⌝ }
-    ensures { λ r. ⌜ Hears frame wet s (inboxBy (record { places = now (places .entry); ranks = now (ranks .entry); sendings = now (sendings .entry); count = count }) (now (whole .entry)) j) (now (out .entry)) at r (now (out .exit)) ⌝ }
-{
-    if count == 1 {
-        hear_only(places, ranks, sendings, whole, frame, j, s, out, wet, at)
-    } else {
-        hear_several(
-            places,
-            ranks,
-            sendings,
-            whole,
-            count,
-            frame,
-            j,
-            s,
-            out,
-            wet,
-            at,
-        )
-    }
 }
 
 // Whether a timer set in `since` has the age.
@@ -690,7 +714,7 @@ fn turn(
     requires { ⌜ (j < 16) × Numbers (record { places = now places; ranks = now ranks; sendings = now sendings; count = count }) ⌝ }
     ensures { λ r. ⌜ Turns (inboxBy (record { places = now (places .entry); ranks = now (ranks .entry); sendings = now (sendings .entry); count = count }) (now (whole .entry)) j) frame period wet s (now (out .entry)) at r (now (out .exit)) ⌝ }
 {
-    let heard = hear_all(
+    let heard = hear_several(
         places,
         ranks,
         sendings,
@@ -731,16 +755,6 @@ fn just_listens(
     }
 }
 
-// The silence timer of place j set, and nothing sent.
-fn listen_at(words: &mut [u32; 80], j: usize, frame: u32)
-    requires { ⌜ (length (now words) ≡ 80) × (j < 16) ⌝ }
-    ensures { λ _. ⌜ (length (now (words .exit)) ≡ 80) × (serversOf (now (words .exit)) ≡ set (serversOf (now (words .entry))) j (setSilence frame (cleared (getD (serversOf (now (words .entry))) j absent)))) ⌝ }
-{
-    let k = 5 * j;
-    words[k + 1] = frame;
-    words[k + 4] = 0;
-}
-
 // Who hears place i, beside those who hear another.
 fn hear_also(heard: [bool; 16], whole: &[bool; 256], i: usize) -> [bool; 16]
     requires { ⌜ i < 16 ⌝ }
@@ -770,17 +784,8 @@ fn hearers(places: &[usize; 16], whole: &[bool; 256], count: usize) -> [bool; 16
     heard
 }
 
-// Nothing sent at place j.
-fn clear_at(words: &mut [u32; 80], j: usize)
-    requires { ⌜ (length (now words) ≡ 80) × (j < 16) ⌝ }
-    ensures { λ _. ⌜ (length (now (words .exit)) ≡ 80) × (serversOf (now (words .exit)) ≡ set (serversOf (now (words .entry))) j (cleared (getD (serversOf (now (words .entry))) j absent))) ⌝ }
-{
-    words[5 * j + 4] = 0;
-}
-
-// The turn of a place that hears somebody or has a timer due.
-fn act_at(
-    words: &mut [u32; 80],
+// The turn of a server of place j that hears somebody or has a timer due.
+fn act(
     places: &[usize; 16],
     ranks: &[u32; 16],
     sendings: &[u32; 16],
@@ -793,15 +798,15 @@ fn act_at(
     out: &mut [u8],
     wet: bool,
     at: usize,
-) -> usize
-    requires { ⌜ (s ≡ getD (serversOf (now words)) j absent) × ((length (now words) ≡ 80) × ((j < 16) × Numbers (record { places = now places; ranks = now ranks; sendings = now sendings; count = count }))) ⌝ }
-    ensures { λ r. ⌜ (length (now (words .exit)) ≡ 80) × TurnsAt (inboxBy (record { places = now (places .entry); ranks = now (ranks .entry); sendings = now (sendings .entry); count = count }) (now (whole .entry)) j) frame period wet (serversOf (now (words .entry))) j (now (out .entry)) at (record { servers = serversOf (now (words .exit)); at = r }) (now (out .exit)) ⌝ }
+) -> Told
+    requires { ⌜ (j < 16) × Numbers (record { places = now places; ranks = now ranks; sendings = now sendings; count = count }) ⌝ }
+    ensures { λ r. ⌜ Turns (inboxBy (record { places = now (places .entry); ranks = now (ranks .entry); sendings = now (sendings .entry); count = count }) (now (whole .entry)) j) frame period wet s (now (out .entry)) at r (now (out .exit)) ⌝ }
 {
     if just_listens(places, ranks, sendings, whole, count, frame, period, j, s) {
-        listen_at(words, j, frame);
-        at
+        let next = attend(s.cleared(), frame);
+        Told { server: next, at }
     } else {
-        let t = turn(
+        turn(
             places,
             ranks,
             sendings,
@@ -814,15 +819,12 @@ fn act_at(
             out,
             wet,
             at,
-        );
-        store(words, j, t.server);
-        t.at
+        )
     }
 }
 
-// The turn of place j; where nothing happens to it, what it sent is cleared.
-fn turn_at(
-    words: &mut [u32; 80],
+// The turn of any server of place j; where nothing happens to it, what it sent is cleared.
+fn turn_of(
     places: &[usize; 16],
     ranks: &[u32; 16],
     sendings: &[u32; 16],
@@ -832,17 +834,17 @@ fn turn_at(
     frame: u32,
     period: Period,
     j: usize,
+    s: Server,
     out: &mut [u8],
     wet: bool,
     at: usize,
-) -> usize
-    requires { ⌜ (length (now words) ≡ 80) × (Hearers (now places) (now whole) count (now heard) × ((j < 16) × Numbers (record { places = now places; ranks = now ranks; sendings = now sendings; count = count }))) ⌝ }
-    ensures { λ r. ⌜ (length (now (words .exit)) ≡ 80) × TurnsAt (inboxBy (record { places = now (places .entry); ranks = now (ranks .entry); sendings = now (sendings .entry); count = count }) (now (whole .entry)) j) frame period wet (serversOf (now (words .entry))) j (now (out .entry)) at (record { servers = serversOf (now (words .exit)); at = r }) (now (out .exit)) ⌝ }
+) -> Told
+    requires { ⌜ Hearers (now places) (now whole) count (now heard) × ((j < 16) × Numbers (record { places = now places; ranks = now ranks; sendings = now sendings; count = count })) ⌝ }
+    ensures { λ r. ⌜ Turns (inboxBy (record { places = now (places .entry); ranks = now (ranks .entry); sendings = now (sendings .entry); count = count }) (now (whole .entry)) j) frame period wet s (now (out .entry)) at r (now (out .exit)) ⌝ }
 {
-    let s = server_at(words, j);
-    if heard[j] | ticks(s, period, frame) {
-        act_at(
-            words,
+    let role = s.role;
+    if (heard[j] & takes_part(role)) | ticks(s, period, frame) {
+        act(
             places,
             ranks,
             sendings,
@@ -857,18 +859,76 @@ fn turn_at(
             at,
         )
     } else {
-        clear_at(words, j);
-        at
+        let next = s.cleared();
+        Told { server: next, at }
     }
 }
 
-// The heart of the frame: the first n servers, each after its turn.
-fn turns(
+// The servers after a frame, and the place after what they said.
+struct AfterFrame {
+    servers: [Server; 16],
+    at: usize,
+}
+
+// The heart of the frame: all servers, each after its turn. Those from place n on are still.
+fn turned(
+    servers: [Server; 16],
+    places: &[usize; 16],
+    ranks: &[u32; 16],
+    sendings: &[u32; 16],
+    whole: &[bool; 256],
+    heard: &[bool; 16],
+    count: usize,
+    period: Period,
+    n: usize,
+    before: u32,
+    out: &mut [u8],
+    wet: bool,
+    at: usize,
+) -> AfterFrame
+    requires { ⌜ (before < 4294967295) × (Still n servers × (Hearers (now places) (now whole) count (now heard) × Lists servers (record { places = now places; ranks = now ranks; sendings = now sendings; count = count }))) ⌝ }
+    ensures { λ r. ⌜ Runs wet (stateOf before period servers (now (whole .entry))) (now (out .entry)) at (record { servers = r .servers; at = r .at }) (now (out .exit)) ⌝ }
+{
+    let frame = before + 1;
+    let mut next = servers;
+    let mut r = at;
+    let mut j: usize = 0;
+    while j < n {
+        let s = servers[j];
+        let t = turn_of(
+            places,
+            ranks,
+            sendings,
+            whole,
+            heard,
+            count,
+            frame,
+            period,
+            j,
+            s,
+            out,
+            wet,
+            r,
+        );
+        let after = t.server;
+        next[j] = after;
+        r = t.at;
+        j += 1;
+    }
+    AfterFrame {
+        servers: next,
+        at: r,
+    }
+}
+
+// The same of servers as numbers.
+fn turn_all(
     words: &mut [u32; 80],
     places: &[usize; 16],
     ranks: &[u32; 16],
     sendings: &[u32; 16],
     whole: &[bool; 256],
+    heard: &[bool; 16],
     count: usize,
     period: Period,
     n: usize,
@@ -877,32 +937,28 @@ fn turns(
     wet: bool,
     at: usize,
 ) -> usize
-    requires { ⌜ (length (now words) ≡ 80) × ((before < 4294967295) × (Still n (serversOf (now words)) × Lists (serversOf (now words)) (record { places = now places; ranks = now ranks; sendings = now sendings; count = count }))) ⌝ }
+    requires { ⌜ (before < 4294967295) × (Still n (serversOf (now words)) × (Hearers (now places) (now whole) count (now heard) × Lists (serversOf (now words)) (record { places = now places; ranks = now ranks; sendings = now sendings; count = count }))) ⌝ }
     ensures { λ r. ⌜ (length (now (words .exit)) ≡ 80) × Runs wet (stateOf before period (serversOf (now (words .entry))) (now (whole .entry))) (now (out .entry)) at (record { servers = serversOf (now (words .exit)); at = r }) (now (out .exit)) ⌝ }
 {
-    let frame = before + 1;
-    let heard = hearers(places, whole, count);
-    let mut r = at;
-    let mut j: usize = 0;
-    while j < n {
-        r = turn_at(
-            words,
-            places,
-            ranks,
-            sendings,
-            whole,
-            &heard,
-            count,
-            frame,
-            period,
-            j,
-            out,
-            wet,
-            r,
-        );
-        j += 1;
-    }
-    r
+    let servers = servers_of(words);
+    let t = turned(
+        servers,
+        places,
+        ranks,
+        sendings,
+        whole,
+        heard,
+        count,
+        period,
+        n,
+        before,
+        out,
+        wet,
+        at,
+    );
+    let after = t.servers;
+    *words = words_of(after);
+    t.at
 }
 
 // The timers of the server at place j, if one is due.
@@ -949,6 +1005,57 @@ fn tick_all(
         j += 1;
     }
     r
+}
+
+// Whether nobody hears anybody.
+fn nobody_hears(heard: &[bool; 16]) -> bool
+    ensures { λ r. ⌜ (r ≡ Bool.true → Deaf (now (heard .entry)) 16) ⌝ }
+{
+    let mut j: usize = 0;
+    while j < 16 {
+        if heard[j] {
+            return false;
+        }
+        j += 1;
+    }
+    true
+}
+
+// Nothing sent at place j.
+fn clear_at(words: &mut [u32; 80], j: usize)
+    requires { ⌜ (length (now words) ≡ 80) × (j < 16) ⌝ }
+    ensures { λ _. ⌜ (length (now (words .exit)) ≡ 80) × (serversOf (now (words .exit)) ≡ set (serversOf (now (words .entry))) j (cleared (getD (serversOf (now (words .entry))) j absent))) ⌝ }
+{
+    words[5 * j + 4] = 0;
+}
+
+// Nothing sent at any place; those from n on sent nothing.
+fn clear_all(words: &mut [u32; 80], n: usize)
+    requires { ⌜ (length (now words) ≡ 80) × Still n (serversOf (now words)) ⌝ }
+    ensures { λ _. ⌜ (length (now (words .exit)) ≡ 80) × (serversOf (now (words .exit)) ≡ mapFrom 0 clearing (serversOf (now (words .entry)))) ⌝ }
+{
+    let mut j: usize = 0;
+    while j < n {
+        clear_at(words, j);
+        j += 1;
+    }
+}
+
+// The first n servers in a frame in which nobody hears what was sent.
+fn unheard_frame(
+    words: &mut [u32; 80],
+    period: Period,
+    n: usize,
+    before: u32,
+    out: &mut [u8],
+    wet: bool,
+    at: usize,
+) -> usize
+    requires { ⌜ (length (now words) ≡ 80) × ((before < 4294967295) × Still n (serversOf (now words))) ⌝ }
+    ensures { λ r. ⌜ (length (now (words .exit)) ≡ 80) × TicksAll wet (before + 1) period (mapFrom 0 clearing (serversOf (now (words .entry)))) (now (out .entry)) at (record { servers = serversOf (now (words .exit)); at = r }) (now (out .exit)) ⌝ }
+{
+    clear_all(words, n);
+    tick_all(words, period, n, before, out, wet, at)
 }
 
 fn greater(a: u32, b: u32) -> u32
@@ -1052,7 +1159,7 @@ struct Reached {
 // Over the frames in which nothing happens: to the last of them, or to the target.
 fn jump(words: &[u32; 80], period: Period, n: usize, loud: u32, frame: u32, target: u32) -> u32
     requires { ⌜ (frame < target) × (Still n (serversOf (now words)) × Loud (serversOf (now words)) loud) ⌝ }
-    ensures { λ r. ⌜ Jumps period (serversOf (now (words .entry))) frame target loud r ⌝ }
+    ensures { λ r. ⌜ Jumps period (serversOf (now (words .entry))) frame target r ⌝ }
 {
     if loud == 0 {
         let first = next_due(words, period, n, frame);
@@ -1080,12 +1187,17 @@ fn heard_frame(
     let mut sendings: [u32; 16] = [0; 16];
     let count = list_senders(words, &mut places, &mut sendings, n);
     let ranks = ranks_of(words);
-    turns(
+    let heard = hearers(&places, whole, count);
+    if nobody_hears(&heard) {
+        return unheard_frame(words, period, n, before, out, wet, at);
+    }
+    turn_all(
         words,
         &places,
         &ranks,
         &sendings,
         whole,
+        &heard,
         count,
         period,
         n,
@@ -1434,8 +1546,11 @@ fn calm(
     requires { ⌜ Still n (serversOf (now words)) × Loud (serversOf (now words)) loud ⌝ }
     ensures { λ r. ⌜ (r < 16 → Calm period (now (whole .entry)) (serversOf (now (words .entry))) r frame (getD (serversOf (now (words .entry))) r absent .beat + beatLimit period)) ⌝ }
 {
+    if loud != 0 {
+        return 16;
+    }
     let b = primary_among(words, n);
-    if (loud != 0) | (n <= b) {
+    if n <= b {
         return 16;
     }
     let s = server_at(words, b);
@@ -1557,11 +1672,19 @@ fn stretch(
     ensures { λ r. ⌜ (length (now (words .exit)) ≡ 80) × Stretches (stateOf frame period (serversOf (now (words .entry))) (now (whole .entry))) target (now (out .entry)) at (serversOf (now (words .exit))) r (now (out .exit)) ⌝ }
 {
     let loud = loudest(words, n);
+    let start = jump(words, period, n, loud, frame, target);
+    if start >= target {
+        return Stretched {
+            frame: start,
+            at,
+            full: false,
+        };
+    }
     let b = calm(words, whole, period, n, loud, frame);
     if b < 16 {
         beat_along(words, whole, period, n, loud, b, frame, target, out, at)
     } else {
-        stretch_on(words, whole, period, n, loud, frame, target, out, at)
+        play_fitting(words, whole, period, n, loud, start, out, at)
     }
 }
 
@@ -1594,31 +1717,93 @@ fn play_within(
     }
 }
 
-// As many single advances towards the target as fit; 9 where there are some to make and not one fits.
+// What an advance in place answers: where it is refused, nothing written, the same frame and the same servers.
+pub struct Ran {
+    pub verdict: Verdict,
+    pub written: usize,
+    pub frame: u32,
+}
+
+// No timer of the server is due after the present frame and up to the target.
+fn rests(s: Server, period: Period, frame: u32, target: u32) -> bool
+    ensures { λ r. ⌜ (r ≡ Bool.true → Rests frame period s (target + 1)) ⌝ }
+{
+    let next = target as u64;
+    let role = s.role;
+    match role {
+        Role::Down => true,
+        Role::Idle => true,
+        Role::Sync => true,
+        Role::Backup => sleeps(s.silence, period.silence_limit(), frame, next),
+        Role::Prospect => {
+            sleeps(s.beat, period.beat_limit(), frame, next)
+                & sleeps(s.prospect, period.prospect_limit(), frame, next)
+        }
+        Role::Primary => sleeps(s.beat, period.beat_limit(), frame, next),
+    }
+}
+
+// So is no timer of any.
+fn all_rest(words: &[u32; 80], period: Period, n: usize, frame: u32, target: u32) -> bool
+    requires { ⌜ Still n (serversOf (now words)) ⌝ }
+    ensures { λ r. ⌜ (r ≡ Bool.true → AllRest frame period (serversOf (now (words .entry))) (target + 1)) ⌝ }
+{
+    let mut i: usize = 0;
+    while i < n {
+        let s = server_at(words, i);
+        if !rests(s, period, frame, target) {
+            return false;
+        }
+        i += 1;
+    }
+    true
+}
+
+// Whether nothing happens up to the target, which is later.
+fn is_quiet(words: &[u32; 80], period: Period, frame: u32, target: u32) -> bool
+    ensures { λ r. ⌜ (r ≡ Bool.true → (frame < target) × Jumps period (serversOf (now (words .entry))) frame target target) ⌝ }
+{
+    if frame >= target {
+        return false;
+    }
+    let n = still_from(words);
+    if loudest(words, n) != 0 {
+        return false;
+    }
+    all_rest(words, period, n, frame, target)
+}
+
+// As many single advances towards the target as fit, in place; 9 where there are some to make and not one fits.
 pub fn run_within(
-    words: [u32; 80],
+    words: &mut [u32; 80],
     whole: &[bool; 256],
     period: Period,
     frame: u32,
     target: u32,
     out: &mut [u8],
-) -> Advance
-    ensures { λ r. ⌜ Advances (stateOf frame period (serversOf words) (now (whole .entry))) (withinGoes (stateOf frame period (serversOf words) (now (whole .entry))) target (length (now (out .entry)))) (now (out .entry)) r (now (out .exit)) ⌝ }
+) -> Ran
+    ensures { λ r. ⌜ AdvancesIn (stateOf frame period (serversOf (now (words .entry))) (now (whole .entry))) (withinGoes (stateOf frame period (serversOf (now (words .entry))) (now (whole .entry))) target (length (now (out .entry)))) (now (out .entry)) r (now (words .exit)) (now (out .exit)) ⌝ }
 {
-    let played = play_within(words, whole, period, frame, target, out);
+    if is_quiet(words, period, frame, target) {
+        return Ran {
+            verdict: Verdict::Accepted,
+            written: 0,
+            frame: target,
+        };
+    }
+    let played = play_within(*words, whole, period, frame, target, out);
+    let next = played.words;
+    *words = next;
     if (frame < target) & (played.frame == frame) {
-        return Advance {
+        return Ran {
             verdict: Verdict::Refused(Refusal::Short),
             written: 0,
             frame,
-            words,
         };
     }
-    let next = played.words;
-    Advance {
+    Ran {
         verdict: Verdict::Accepted,
         written: played.at,
         frame: played.frame,
-        words: next,
     }
 }

@@ -48,7 +48,7 @@ fitting (suc n) c room =
 abbrev pub framesWithin : State → ℕ → ℕ → ℕ
 framesWithin c t room = fitting (t - c .frame) c room
 
--- "9", where there are frames to go and not even one fits
+-- "9", where there are frames to go and not even one fits. Like `timeGoes` it knows no end of the day
 abbrev pub withinGoes : State → ℕ → ℕ → Outcome
 withinGoes c t room =
     record {

@@ -21,7 +21,7 @@ leastPeriod = 2
 abbrev pub greatestPeriod : ℕ
 greatestPeriod = 250
 
--- a period for a channel that could not be opened
+-- a period where none is known yet, as for a channel that could not be opened
 abbrev pub shortest : Period
 shortest = record { frames = leastPeriod }
 

@@ -46,69 +46,60 @@ impl Run {
         next
     }
 
-    // What waits is written.
-    fn flushed(self, out: &[u8]) -> Run {
-        let well = flush(out, self.waiting);
-        let mut next = self;
-        next.well = self.well & well;
-        next.waiting = 0;
-        next
-    }
-
-    // With n bytes more that wait.
-    fn with(self, n: usize, out: &[u8]) -> Run {
-        let waiting = self.waiting;
-        if waiting > out.len() {
-            return self.stuck();
-        }
-        if n > out.len() - waiting {
-            return self.stuck();
-        }
-        let mut next = self;
-        next.waiting = waiting + n;
-        next
-    }
-
-    // Where there was no room for a step, what waits is written first.
-    fn again(self, out: &[u8]) -> Run {
-        if self.waiting == 0 {
-            self.stuck()
-        } else {
-            self.flushed(out)
-        }
-    }
-
-    // After a step.
+    // After a step: its bytes wait with the others. Where there was no room for it, what waits is written first.
     fn after(self, step: Step, out: &[u8]) -> Run {
         let written = step.written;
         let feed = step.feed;
+        let waiting = self.waiting;
         let mut next = self;
         next.feed = feed;
         match written {
-            Written::To(n) => next.with(n, out),
-            Written::Refused(_) => next.again(out),
+            Written::To(n) => {
+                if waiting > out.len() {
+                    return self.stuck();
+                }
+                if n > out.len() - waiting {
+                    return self.stuck();
+                }
+                next.waiting = waiting + n;
+            }
+            Written::Refused(_) => {
+                if waiting == 0 {
+                    return self.stuck();
+                }
+                let well = flush(out, waiting);
+                next.well = self.well & well;
+                next.waiting = 0;
+            }
         }
+        next
     }
 
-    // A step of the line that waits to be done.
-    fn step(self, out: &mut [u8]) -> Run {
+    // Steps of the line, if it waits to be done.
+    fn step(
+        self,
+        line: &[u8; 65],
+        words: &mut [u32; 80],
+        whole: &mut [bool; 256],
+        out: &mut [u8],
+    ) -> Run {
         let from = self.waiting;
         if from > out.len() {
             return self.stuck();
         }
         let feed = self.feed;
-        let step = feed.step(&mut out[from..]);
+        let step = feed.steps(line, words, whole, &mut out[from..]);
         self.after(step, out)
     }
 
     // Some bytes of the piece.
-    fn take(self, piece: &[u8]) -> Run {
+    fn take(self, line: &mut [u8; 65], piece: &[u8]) -> Run {
         let from = self.used;
         if from > piece.len() {
             return self.stuck();
         }
         let feed = self.feed;
-        let taken = feed.take(&piece[from..]);
+        let taken = feed.take(line, &piece[from..]);
         let used = taken.used;
         if used > piece.len() - from {
             return self.stuck();
@@ -120,42 +111,53 @@ impl Run {
         next
     }
 
-    fn turn(self, piece: &[u8], out: &mut [u8]) -> Run {
-        let feed = self.feed;
-        if feed.waits() {
-            self.step(out)
-        } else {
-            self.take(piece)
-        }
+    // Bytes up to the end of a line, none where one waits to be done; and its steps.
+    fn turn(
+        self,
+        line: &mut [u8; 65],
+        words: &mut [u32; 80],
+        whole: &mut [bool; 256],
+        piece: &[u8],
+        out: &mut [u8],
+    ) -> Run {
+        let fed = self.take(line, piece);
+        fed.step(line, words, whole, out)
     }
 
     // Whether there is more to do with the piece.
-    fn goes_on(self, piece: &[u8]) -> bool {
+    fn goes_on(self, line: &[u8; 65], piece: &[u8]) -> bool {
         let feed = self.feed;
-        self.well & (!feed.over() & (feed.waits() | (self.used < piece.len())))
+        self.well & (!feed.over() & (feed.waits(line) | (self.used < piece.len())))
     }
 
     // All of a piece.
-    fn run(self, piece: &[u8], out: &mut [u8]) -> Run {
+    fn run(
+        self,
+        line: &mut [u8; 65],
+        words: &mut [u32; 80],
+        whole: &mut [bool; 256],
+        piece: &[u8],
+        out: &mut [u8],
+    ) -> Run {
         let mut now = self;
         now.used = 0;
         let mut turns = u64::MAX;
-        while (turns > 0) & now.goes_on(piece) {
-            let next = now.turn(piece, out);
+        while (turns > 0) & now.goes_on(line, piece) {
+            let next = now.turn(line, words, whole, piece, out);
             now = next;
             turns -= 1;
         }
         now
     }
 
-    // The end of the input, and all that waits.
-    fn end(self, out: &mut [u8]) {
-        let now = self.flushed(out);
-        if !now.well {
+    // What waits, and the end of the input.
+    fn end(self, line: &[u8; 65], out: &mut [u8]) {
+        let well = flush(out, self.waiting);
+        if !(self.well & well) {
             return;
         }
-        let feed = now.feed;
-        let last = feed.finish(out);
+        let feed = self.feed;
+        let last = feed.finish(line, out);
         let written = last.written;
         match written {
             Written::To(n) => {
@@ -173,11 +175,18 @@ struct Read {
 }
 
 // Reads once, and does what came. A read that a signal cut short is made again.
-fn read_on(run: Run, piece: &mut [u8], out: &mut [u8]) -> Read {
+fn read_on(
+    run: Run,
+    line: &mut [u8; 65],
+    words: &mut [u32; 80],
+    whole: &mut [bool; 256],
+    piece: &mut [u8],
+    out: &mut [u8],
+) -> Read {
     let got = libc::read(STDIN_FILENO, piece);
     if got > 0 {
         let n = io::count(got, piece);
-        let next = run.run(&piece[..n], out);
+        let next = run.run(line, words, whole, &piece[..n], out);
         let feed = next.feed;
         return Read {
             run: next,
@@ -199,12 +208,19 @@ fn read_on(run: Run, piece: &mut [u8], out: &mut [u8]) -> Read {
 }
 
 // The whole input.
-fn read_all(run: Run, piece: &mut [u8], out: &mut [u8]) -> Run {
+fn read_all(
+    run: Run,
+    line: &mut [u8; 65],
+    words: &mut [u32; 80],
+    whole: &mut [bool; 256],
+    piece: &mut [u8],
+    out: &mut [u8],
+) -> Run {
     let mut now = run;
     let mut more = true;
     let mut turns = u64::MAX;
     while (turns > 0) & more {
-        let read = read_on(now, piece, out);
+        let read = read_on(now, line, words, whole, piece, out);
         let next = read.run;
         now = next;
         more = read.more;
@@ -213,27 +229,28 @@ fn read_all(run: Run, piece: &mut [u8], out: &mut [u8]) -> Run {
     now
 }
 
-// The place after what was written; 0 where it was refused.
-fn place(written: Written) -> usize {
-    match written {
-        Written::To(n) => n,
-        Written::Refused(_) => 0,
-    }
-}
-
 fn main() {
     let mut out = room();
     let mut piece = io::large_buffer();
+    let mut line = [0; 65];
+    let mut words = [0; 80];
+    let mut whole = [true; 256];
     let begun = Feed::begin(&mut out);
     let feed = begun.feed;
-    let written = begun.written;
-    let waiting = place(written);
     let run = Run {
         feed,
         used: 0,
-        waiting,
+        waiting: 0,
         well: true,
     };
-    let last = read_all(run, &mut piece, &mut out);
-    last.end(&mut out);
+    let headed = run.after(begun, &out);
+    let last = read_all(
+        headed,
+        &mut line,
+        &mut words,
+        &mut whole,
+        &mut piece,
+        &mut out,
+    );
+    last.end(&line, &mut out);
 }

@@ -8,7 +8,7 @@ returns : tie.Need-returns
 returns c =
     let s = c .before .before .before .before .before in
     c .counted .ensures
-    ∙ period-body _ (s .before .before .field-count .ensures) (s .before .first-field .ensures) (s .after-field .ensures)
+    ∙ period-body _ (s .before .before .before .field-count .ensures) (s .before .field-to .ensures) (s .field-from .ensures)
     (sym (c .before .before .before .same .ensures) ∙ c .before .before .if1 .taken)
     (c .before .read-period .ensures)
 
@@ -16,7 +16,7 @@ returns-2 : tie.Need-returns-2
 returns-2 c =
     let s = c .before .before .before .before .before .before .before .before in
     c .counted2 .ensures
-    ∙ server-body _ (s .before .before .field-count .ensures) (s .before .first-field .ensures) (s .after-field .ensures)
+    ∙ server-body _ (s .before .before .before .field-count .ensures) (s .before .field-to .ensures) (s .field-from .ensures)
     (sym (c .before .before .before .before .before .before .same .ensures) ∙ c .before .before .before .before .before .if1 .left)
     (sym (c .before .before .before .same2 .ensures) ∙ c .before .before .if2 .taken)
     (c .before .read-server .ensures)
@@ -25,7 +25,7 @@ returns-3 : tie.Need-returns-3
 returns-3 c =
     let s = c .before .before .before .before .before .before .before .before .before .before .before in
     c .counted3 .ensures
-    ∙ end-body _ (s .before .before .field-count .ensures) (s .before .first-field .ensures) (s .after-field .ensures)
+    ∙ end-body _ (s .before .before .before .field-count .ensures) (s .before .field-to .ensures) (s .field-from .ensures)
     (sym (c .before .before .before .before .before .before .before .before .before .same .ensures) ∙ c .before .before .before .before .before .before .before .before .if1 .left)
     (sym (c .before .before .before .before .before .before .same2 .ensures) ∙ c .before .before .before .before .before .if2 .left)
     (sym (c .before .before .before .same3 .ensures) ∙ c .before .before .if3 .taken)
@@ -35,7 +35,7 @@ returns-4 : tie.Need-returns-4
 returns-4 c =
     let s = c .before .before .before .before .before .before .before .before .before .before in
     c .from-verb .ensures
-    ∙ entry-body _ (s .before .before .field-count .ensures) (s .before .first-field .ensures) (s .after-field .ensures)
+    ∙ entry-body _ (s .before .before .before .field-count .ensures) (s .before .field-to .ensures) (s .field-from .ensures)
     (sym (c .before .before .before .before .before .before .before .before .same .ensures) ∙ c .before .before .before .before .before .before .before .if1 .left)
     (sym (c .before .before .before .before .before .same2 .ensures) ∙ c .before .before .before .before .if2 .left)
     (sym (c .before .before .same3 .ensures) ∙ c .before .if3 .left)
@@ -46,7 +46,8 @@ read-body-spec =
     (tie.spec
     (λ c κs. search needs)
     (λ c κs. search needs)
-    (λ c κs. search needs)
+    (λ c κs. c .find .ensures)
+    (λ c κs. c .before .find .ensures)
     (λ c. search needs)
     (λ c κs. search needs)
     (λ c κs. search needs)

@@ -1,5 +1,5 @@
 use Rattle.text.proofs.Writing.{first-piece, chain}
-use Rattle.feed.proofs.Making.{refusal-pieces}
+use Rattle.feeding.proofs.Refusals.{refusal-pieces}
 use borrow.Author.Needs.{needs}
 use Rattle.feed.proofs.put_refusal.Statement.{statement}
 use Rattle.feed.proofs.put_refusal.Tie as tie

@@ -1,5 +1,6 @@
 use native.Mathlib.Omega.{arith}
-use Rattle.feed.proofs.Making.{few, refusal-long}
+use Rattle.feeding.proofs.Refusals.{refusal-long}
+use Rattle.feed.proofs.Making.{few}
 use borrow.Author.Needs.{needs}
 use Rattle.feed.proofs.refusal_length.Statement.{statement}
 use Rattle.feed.proofs.refusal_length.Tie as tie

@@ -1,10 +1,11 @@
-use Rattle.feed.proofs.Laws.{laws}
+use mathlib.Core.Path.{refl}
+use Rattle.feeding.proofs.Laws.{laws}
 use borrow.Author.Needs.{needs}
 use Rattle.feed.proofs.Feed.begin.Statement.{statement}
 use Rattle.feed.proofs.Feed.begin.Tie as tie
 
 returns : tie.Need-returns
-returns c = record { out = c .before .before .before .write-bytes .ensures; fed = c .new .ensures; laws = laws }
+returns c = record { out = c .before .before .before .write-bytes .ensures; fed = λ l w k. refl; laws = laws }
 
 pub begin-spec : {M : Type 1} → statement M
 begin-spec = tie.close (tie.spec (λ c. search needs) (λ c κs. search needs) (λ c κs. search needs) (λ c. search needs) returns)

@@ -1,16 +1,25 @@
-use mathlib.Core.Path.{ap, _∙_}
+use mathlib.Core.List.{[]}
+use mathlib.Core.Path.{ap₂}
+use Prim.Native.Nat.{ℕ}
 use Rattle.group.specs.declared.Table.{Table}
 use Rattle.group.specs.Table.{fresh}
 use Rattle.day.specs.Day.{on, atServers}
-use Rattle.feed.specs.Moves.{nextLine}
+use Rattle.feeding.specs.Moves.{going}
 use Rattle.feed.specs.Answers.{fedOf}
-use Rattle.feed.proofs.Staging.{quietly}
+use Rattle.feed.proofs.Making.{makes-as}
+use Rattle.feed.proofs.Staging.{period-is, period-taken}
 use borrow.Author.Needs.{needs}
 use Rattle.feed.proofs.Feed.first_line.Statement.{statement}
 use Rattle.feed.proofs.Feed.first_line.Tie as tie
 
 returns : tie.Need-returns
-returns c = let a = c .before .before .before .args in quietly (c .quiet .ensures) (c .before .listed .ensures ∙ ap (λ (t : Table). nextLine (fedOf (a .self)) (on atServers (fresh t (a .period)))) (c .before .before .empty .ensures))
+returns c l =
+    let a = c .before .before .before .before .before .before .before .before .before .before .args in
+    let q = c .before .before .before .before .before .before .before .before .before .before .pre in
+    makes-as (ap₂ (λ (t : Table) (n : ℕ). going (fedOf (a .self) l (a .words .now) (a .whole .now)) [] (on atServers (fresh t n))) (c .before .before .before .before .before .before .before .before .empty .ensures) (period-is (q .1) (q .2) (c .before .before .before .before .before .before .of .result) (c .before .before .before .before .before .before .of .ensures) (c .before .before .before .before .p .given .1))) (c .listed .ensures (a .out .now) l)
+
+returns-2 : tie.Need-returns-2
+returns-2 c l = let q = c .before .before .before .before .before .before .before .before .before .before .before .pre in absurd (period-taken (q .1) (q .2) (c .before .before .before .before .before .before .before .of .result) (c .before .before .before .before .before .before .before .of .ensures) (c .before .before .before .before .before .k .given .1))
 
 pub first-line-spec : {M : Type 1} → statement M
-first-line-spec = tie.close (tie.spec (λ c κs. search needs) (λ c κs. search needs) (λ c κs. search needs) returns)
+first-line-spec = tie.close (tie.spec (λ c κs. search needs) (λ c κs. search needs) (λ c. search needs) (λ c κs. search needs) (λ c. search needs) (λ c κs. search needs) returns (λ c. search needs) returns-2)

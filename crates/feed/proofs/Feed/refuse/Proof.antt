@@ -1,10 +1,18 @@
-use Rattle.feed.proofs.Making.{makes-put}
+use mathlib.Core.Path.{ap}
+use Rattle.refusal.specs.Answer.{numberOf}
+use Rattle.day.specs.Day.{refusal}
+use Rattle.feed.specs.declared.Feed.{Feed}
+use Rattle.feed.specs.Answers.{channelOf, fedOf}
+use Rattle.feed.proofs.Making.{makes-as, makes-put}
 use borrow.Author.Needs.{needs}
 use Rattle.feed.proofs.Feed.refuse.Statement.{statement}
 use Rattle.feed.proofs.Feed.refuse.Tie as tie
 
 returns : tie.Need-returns
-returns c = makes-put (c .before .before .before .before .write-refused .ensures) (c .put .ensures) (c .before .entered .ensures)
+returns c w k l =
+    let a = c .before .before .before .before .before .before .before .args in
+    makes-as (ap (λ (x : Feed). record { lines = refusal (channelOf (a .self) w k) (a .identity) (numberOf (a .k)); fed = fedOf x l w k }) (c .before .turned .ensures))
+    (makes-put l w k (c .before .before .before .before .write-refused .ensures) (c .put .ensures))
 
 pub refuse-spec : {M : Type 1} → statement M
 refuse-spec = tie.close (tie.spec (λ c κs. search needs) (λ c κs. search needs) (λ c κs. search needs) (λ c. search needs) returns)

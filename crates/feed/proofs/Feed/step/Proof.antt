@@ -1,18 +1,37 @@
-use mathlib.Core.Path.{sym, _∙_}
-use Rattle.lists.proofs.Cases.{chosen, other}
-use Rattle.feed.specs.Moves.{stepMove}
-use Rattle.feed.proofs.Making.{makes-as, makes-idle}
+use mathlib.Core.Path.{refl, sym, subst, _∙_}
+use borrow.Author.Tests.{not-true, not-false}
+use lib.ListN.{length}
+use Rattle.feeding.specs.Steps.{Sized}
+use Rattle.feeding.proofs.Sizing.{read-sized}
+use Rattle.feeding.proofs.Laws.{step-idle, step-is}
+use Rattle.feed.specs.Answers.{fedOf}
+use Rattle.feed.proofs.Making.{makes-as, makes-none}
 use borrow.Author.Needs.{needs}
 use Rattle.feed.proofs.Feed.step.Statement.{statement}
 use Rattle.feed.proofs.Feed.step.Tie as tie
 
 returns : tie.Need-returns
-unfolding stepMove
-returns c = makes-as (sym (chosen _ (sym (c .before .before .before .before .before .waits .ensures) ∙ c .before .before .before .before .if1 .taken))) (c .before .before .go .ensures)
+returns c =
+    let a = c .before .before .before .args in
+    let l = a .line .now in
+    let w = a .words .now in
+    let k = a .whole .now in
+    let f = fedOf (a .self) l w k in
+    let room = length (a .out .now) in
+    makes-as (sym (step-idle f (sym (c .before .waits .ensures w k) ∙ not-true _ (c .if1 .taken)) room)) (makes-none refl)
+
+go-requires : tie.Need-go-requires
+go-requires c κs = subst Sized (sym (c .before .before .before .read .ensures)) (read-sized _)
 
 returns-2 : tie.Need-returns-2
-unfolding stepMove
-returns-2 c = makes-as (sym (other _ (sym (c .before .before .waits .ensures) ∙ c .before .if1 .left))) (makes-idle (c .quiet .ensures))
+returns-2 c =
+    let a = c .before .before .before .before .before .before .before .before .before .before .before .args in
+    let l = a .line .now in
+    let w = a .words .now in
+    let k = a .whole .now in
+    let f = fedOf (a .self) l w k in
+    let room = length (a .out .now) in
+    makes-as (step-is f room (sym (c .before .before .before .before .before .before .before .before .before .waits .ensures w k) ∙ not-false _ (c .before .before .before .before .before .before .before .before .if1 .left)) (c .before .before .before .before .before .before .read .ensures)) (c .before .before .go .ensures l)
 
 pub step-spec : {M : Type 1} → statement M
-step-spec = tie.close (tie.spec (λ c κs. search needs) (λ c κs. search needs) (λ c κs. search needs) (λ c. search needs) returns returns-2)
+step-spec = tie.close (tie.spec (λ c κs. search needs) returns (λ c κs. search needs) go-requires (λ c. search needs) returns-2)

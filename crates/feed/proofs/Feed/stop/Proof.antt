@@ -4,7 +4,7 @@ use Rattle.feed.proofs.Feed.stop.Statement.{statement}
 use Rattle.feed.proofs.Feed.stop.Tie as tie
 
 returns : tie.Need-returns
-returns c = makes-put (c .before .before .before .before .write-refusal .ensures) (c .put .ensures) (c .before .ended .ensures)
+returns c w k l = makes-put l w k (c .before .before .before .write-refusal .ensures) (c .put .ensures)
 
 pub stop-spec : {M : Type 1} → statement M
-stop-spec = tie.close (tie.spec (λ c κs. search needs) (λ c κs. search needs) (λ c κs. search needs) (λ c. search needs) returns)
+stop-spec = tie.close (tie.spec (λ c κs. search needs) (λ c κs. search needs) (λ c. search needs) returns)

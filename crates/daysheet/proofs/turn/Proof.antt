@@ -1,0 +1,17 @@
+use mathlib.Core.Path.{sym, _∙_}
+use Rattle.daysheet.proofs.Spending.{turns-step, turns-last, turns-taken}
+use borrow.Author.Needs.{needs}
+use Rattle.daysheet.proofs.turn.Statement.{statement}
+use Rattle.daysheet.proofs.turn.Tie as tie
+
+returns : tie.Need-returns
+returns c = let a = c .before .before .before .before .before .before .before .before .before .before .before .before .before .args in turns-step (sym (c .before .before .before .before .before .before .before .before .before .waits .ensures (a .words .now) (a .whole .now)) ∙ c .before .before .before .before .before .before .before .before .if1 .taken) (c .before .before .before .steps .ensures)
+
+returns-2 : tie.Need-returns-2
+returns-2 c = let a = c .before .before .before .before .before .before .before .before .before .before .before .before .args in turns-last (sym (c .before .before .before .before .before .before .before .before .waits .ensures (a .words .now) (a .whole .now)) ∙ c .before .before .before .before .before .before .before .if1 .left) (c .before .before .before .before .before .before .if2 .taken) (c .before .before .before .finish .ensures (a .words .now) (a .whole .now))
+
+returns-3 : tie.Need-returns-3
+returns-3 c = let a = c .before .before .before .before .before .before .before .before .before .args in turns-taken (sym (c .before .before .before .before .before .waits .ensures (a .words .now) (a .whole .now)) ∙ c .before .before .before .before .if1 .left) (c .before .before .before .if2 .left) (c .before .take .ensures (a .words .now) (a .whole .now))
+
+pub turn-spec : {M : Type 1} → statement M
+turn-spec = tie.close (tie.spec (λ c κs. search needs) (λ c κs. search needs) (λ c. search needs) returns (λ c κs. search needs) (λ c. search needs) returns-2 (λ c κs. search needs) returns-3)

@@ -1,0 +1,22 @@
+use mathlib.Core.Bool.{true}
+use mathlib.Core.List.{List}
+use mathlib.Core.Path.{ap₂}
+use lib.ListN.{replicate, take}
+use Rattle.server.specs.declared.Server.{Server}
+use Rattle.frames.specs.Answers.{stateOf}
+use Rattle.feeding.specs.Fed.{Fed}
+use Rattle.feed.specs.declared.Feed.{Feed}
+use Rattle.feed.specs.Answers.{dayOf}
+use Rattle.feed.proofs.Making.{makes-none}
+use borrow.Author.Needs.{needs}
+use Rattle.feed.proofs.Feed.listed.Statement.{statement}
+use Rattle.feed.proofs.Feed.listed.Tie as tie
+
+returns : tie.Need-returns
+returns c d l =
+    let a = c .before .before .before .args in
+    let f : Feed → List Server → Fed = λ x s. record { over = x .over; number = x .number; line = take (x .length) l; day = dayOf (x .stage) (stateOf 0 (a .period) s (replicate 256 true)) } in
+    makes-none (ap₂ f (c .turned .ensures) (c .before .before .words-of .ensures))
+
+pub listed-spec : {M : Type 1} → statement M
+listed-spec = tie.close (tie.spec (λ c κs. search needs) (λ c κs. search needs) returns)

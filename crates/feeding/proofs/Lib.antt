@@ -1,0 +1,12 @@
+pub mod Refusals
+pub mod Taking
+pub mod Lines
+pub mod Remaining
+pub mod Calling
+pub mod Placing
+pub mod Moving
+pub mod Finishing
+pub mod Laws
+pub mod Calming
+pub mod Sizing
+pub mod Bounding

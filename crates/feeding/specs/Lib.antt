@@ -1,0 +1,5 @@
+pub mod Fed
+pub mod Moves
+pub mod Bound
+pub mod Laws
+pub mod Steps

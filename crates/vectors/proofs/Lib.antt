@@ -1,0 +1,4 @@
+pub mod Checking
+pub mod Numbers
+pub mod Building
+pub mod Comparing

@@ -1,0 +1,21 @@
+-- What a verb answers, and what it makes of the servers and of the links.
+use mathlib.Core.Bool.{Bool}
+use mathlib.Core.List.{List}
+use mathlib.Core.Path.{_≡_}
+use Prim.Native.Nat.{ℕ}
+use Rattle.server.specs.declared.Period.{Period}
+use Rattle.server.specs.declared.Verb.{Verb}
+use Rattle.group.specs.Answers.{Gives}
+use Rattle.group.specs.Verbs.{known, verbOutcome}
+use Rattle.frames.specs.Words.{serversOf}
+use Rattle.frames.specs.Answers.{stateOf}
+use Rattle.verbs.specs.declared.Acted.{Acted}
+
+-- whether the servers with the numbers w have the identities of the verb v, and these differ, whatever the frame, the period and the links
+abbrev pub Knows : List ℕ → Verb → ℕ → ℕ → Bool → Type 0
+Knows w v a b r = (t : ℕ) (p : Period) (l : List Bool) → r ≡ known (stateOf t p (serversOf w) l) v a b
+
+-- the verb v in frame t with the lent slice d, whatever the period: w are the numbers of the servers and l the links before it, w′ and l′ those after it
+abbrev pub Acts : ℕ → List ℕ → List Bool → Verb → ℕ → ℕ → List ℕ → Acted → List ℕ → List Bool → List ℕ → Type 0
+Acts t w l v a b d r w′ l′ d′ =
+    (p : Period) → Gives (stateOf t p (serversOf w) l) (verbOutcome (stateOf t p (serversOf w) l) v a b) d (r .verdict) (r .written) (stateOf t p (serversOf w′) l′) d′
