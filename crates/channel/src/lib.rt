@@ -55,7 +55,7 @@ impl Channel {
         let verdict = opened.verdict;
         let state = opened.state;
         let servers = state.servers;
-        let words = frames::words_of(servers);
+        let words = frame::words_of(servers);
         let period = state.period;
         let whole = state.whole;
         Opened {
@@ -74,13 +74,29 @@ impl Channel {
         ensures { λ r. ⌜ r ≡ state self ⌝ }
     {
         let words = self.words;
-        let servers = frames::servers_of(&words);
+        let servers = frame::servers_of(&words);
         let period = self.period;
         let whole = self.whole;
         State {
             frame: self.frame,
             period,
             servers,
+            whole,
+        }
+    }
+
+    // The channel that stands for a state.
+    pub fn of_state(from: State) -> Channel
+        ensures { λ r. ⌜ state r ≡ from ⌝ }
+    {
+        let servers = from.servers;
+        let words = frame::words_of(servers);
+        let period = from.period;
+        let whole = from.whole;
+        Channel {
+            frame: from.frame,
+            period,
+            words,
             whole,
         }
     }

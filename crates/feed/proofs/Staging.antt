@@ -26,7 +26,7 @@ use Rattle.group.specs.declared.Added.{Added}
 use Rattle.group.specs.Table.{addRefusal, fresh}
 use Rattle.group.specs.Answers.{Adds, Gives}
 use Rattle.group.specs.Verbs.{verbOutcome}
-use Rattle.frames.specs.Answers.{stateOf}
+use Rattle.frame.specs.Answers.{stateOf}
 use Rattle.day.specs.Day.{Day, on as during, atServers, atEntries, tableOf, addEffect, callEffect}
 use Rattle.feeding.specs.Fed.{Fed}
 use Rattle.feeding.specs.Moves.{Move, nextLine, stopping, going, effectMove, placeRefusal}

@@ -21,7 +21,7 @@ use Rattle.group.specs.Frame.{frameLines}
 use Rattle.group.specs.Verbs.{known, verbRefusal, verbOutcome}
 use Rattle.group.specs.Advance.{advancedBy, linesBy, fitting}
 use Rattle.group.proofs.Laws.{fit-bounds}
-use Rattle.frames.proofs.Bound.{said-most, frame-most}
+use Rattle.frame.proofs.Bound.{said-most, frame-most}
 use Rattle.day.specs.Read.{DayLine, wrong, period, server, entry, end, lineRead}
 use Rattle.day.specs.Day.{Stage, atPeriod, atServers, atEntries, atClose, Day, Effect, stop, go, on as during, tableOf, refusal, periodEffect, addEffect, serverEffect, callEffect, entryEffect, endEffect, lineEffect, inPlace, lastLine, beyond}
 use Rattle.day.specs.Sheet.{inputRefusal}

@@ -29,14 +29,15 @@ use Rattle.group.specs.declared.State.{State}
 use Rattle.group.specs.Hearing.{linkOf}
 use Rattle.group.specs.Frame.{movedTo}
 use Rattle.group.specs.Advance.{advancedBy, linesBy}
-use Rattle.frames.specs.Answers.{stateOf}
 use Rattle.frames.specs.declared.Pulse.{Pulse}
 use Rattle.frames.specs.declared.Stretched.{Stretched}
-use Rattle.frames.specs.Steps.{Out, isPrimary, stillIn, isStill, Still, Loud, NotDue, pulsed, Waits, AllWait, Calm, beatLines, Beats, Stretches}
-use Rattle.frames.proofs.Writing.{chain, out-as, start, says-out, after-fits}
-use Rattle.frames.proofs.Quiet.{due-before, due-from, unsent}
-use Rattle.frames.proofs.Loud.{loud-quiet}
-use Rattle.frames.proofs.Bound.{line-most}
+use Rattle.frame.specs.Answers.{isPrimary, stillIn, isStill, stateOf}
+use Rattle.frame.specs.Steps.{Out, Still, Loud, NotDue}
+use Rattle.frames.specs.Steps.{pulsed, Waits, AllWait, Calm, beatLines, Beats, Stretches}
+use Rattle.frame.proofs.Writing.{chain, out-as, start, says-out, after-fits}
+use Rattle.frame.proofs.Quiet.{due-before, due-from, unsent}
+use Rattle.frame.proofs.Loud.{loud-quiet}
+use Rattle.frame.proofs.Bound.{line-most}
 use Rattle.frames.proofs.Playing.{jump-quiet}
 use Rattle.frames.proofs.Fitting.{stretch-jump}
 use Rattle.frames.proofs.Pulsing.{still-no-backup, quiet, all-rest, Rounds, rounds}
@@ -68,38 +69,20 @@ waits-more p t f l w b {i} {wait} v q e k h n =
     waiting : (i ≡ b → ⊥) → wait ≡ true
     waiting y = on (tested wait) (λ x. x) (λ x. absurd (clash (and-true (ap not x) (ap not (ne-eqb i b y))) e))
 
--- a server that does nothing until a verb is left alone by a beat
-pub pulsed-still : (b f i : ℕ) (s : Server) → (i ≡ b → ⊥) → isStill s ≡ true → pulsed b f i s ≡ s
-pulsed-still b f i s n e = other _ (ne-eqb i b n) ∙ other _ (still-no-backup (s .role) _ e)
-
 pub calm-is :
-    (p : Period) (w : List Bool) (l : List Server) (b t n loud : ℕ) → Still n l → Loud l loud → loud ≡ 0 → b < n → isPrimary (getD l b absent .role) ≡ true →
-    t < getD l b absent .beat + beatLimit p → 1 < beatLimit p → AllWait l w p b t (getD l b absent .beat + beatLimit p) n →
+    (p : Period) (w : List Bool) (l : List Server) (b t : ℕ) → Loud l 0 → b < 16 → isPrimary (getD l b absent .role) ≡ true →
+    t < getD l b absent .beat + beatLimit p → 1 < beatLimit p → AllWait l w p b t (getD l b absent .beat + beatLimit p) 16 →
     Calm p w l b t (getD l b absent .beat + beatLimit p)
-calm-is p w l b t n loud still v z h q ahead long wait =
-    let none = loud-quiet v z in
+calm-is p w l b t v h q ahead long wait =
     record {
-      place = omega (arith, still .few);
+      place = h;
       primary = primary-so (getD l b absent .role) q;
       next = refl;
       ahead = ahead;
       long = long;
-      unsent = λ i g. unsent l 16 i none g;
-      others =
-          λ i g e.
-          on (less i n)
-          (λ k.
-          on (wait i k e)
-          (λ s. inl s)
-          (λ s. inr (record { role = s .0; link = s .1 .0; waits = s .1 .1 })))
-          (λ k. inl (still .still i k g));
+      unsent = λ i g. unsent l 16 i (loud-quiet v refl) g;
+      others = λ i g e. on (wait i g e) (λ s. inl s) (λ s. inr (record { role = s .0; link = s .1 .0; waits = s .1 .1 }));
     }
-
--- the primary is among the places that are looked at
-pub calm-among : (p : Period) (w : List Bool) (l : List Server) (b t f n : ℕ) → Still n l → Calm p w l b t f → b < n
-calm-among p w l b t f n s v =
-    on (less b n) (λ k. k)
-    (λ k. absurd (clash (s .still b k (v .place)) (ap (λ (r : Role). stillIn r (sentAny (getD l b absent))) (v .primary))))
 
 -- ---- the lines
 

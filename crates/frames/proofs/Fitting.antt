@@ -23,13 +23,14 @@ use Rattle.group.specs.Advance.{advancedBy, linesBy, fitting, framesWithin, wit
 use Rattle.group.specs.Answers.{Gives}
 use Rattle.group.proofs.Places.{frame-after}
 use Rattle.group.proofs.Answering.{is-long, gives-refused, gives-so}
-use Rattle.frames.specs.Words.{serversOf}
-use Rattle.frames.specs.Answers.{stateOf}
-use Rattle.frames.specs.declared.Played.{Played}
+use Rattle.frame.specs.Words.{serversOf}
 use Rattle.frames.specs.declared.Stretched.{Stretched}
-use Rattle.frames.specs.Steps.{Out, Jumps, Fares, Stretches, MovesWithin}
-use Rattle.frames.proofs.Words.{not-so, not-some}
-use Rattle.frames.proofs.Writing.{after-fits, start, chain, out-as}
+use Rattle.frame.specs.declared.Fared.{Fared}
+use Rattle.frame.specs.Answers.{stateOf, frameFits, Plays}
+use Rattle.frame.specs.Steps.{Out}
+use Rattle.frames.specs.Steps.{Stepped, Jumps, Fares, Stretches, MovesWithin}
+use Rattle.frame.proofs.Words.{not-so, not-some}
+use Rattle.frame.proofs.Writing.{after-fits, start, chain, out-as}
 use Rattle.frames.proofs.Playing.{advanced-add, lines-add, one-step, no-step, jumped}
 
 -- ---- the number of frames that fit
@@ -62,14 +63,33 @@ fit-add (suc k) m c room h =
 
 -- ---- one frame, if it fits
 
-module _ (c : State) {d : List ℕ} {at : ℕ} where
-  pub fares-one :
-      {l : List Server} {n : ℕ} {d′ : List ℕ} → leb (at + length (frameLines c)) (length d) ≡ true → l ≡ advanced c .servers → Out true d at (frameLines c) n d′ →
-      Fares c d at l (record { frame = c .frame + 1; at = n; full = false }) d′
-  fares-one {l} {n} {d′} h e o = record { full = sym (ap not h); steps = let one : _≡_ {A = ℕ} (choose false 0 1) 1 = other 0 refl in rw one (one-step c e o) }
+module _ (c : State) {d : List ℕ} {at : ℕ} {l : List Server} {r : Fared} {d′ : List ℕ} (next : c .frame < 4294967295) (v : Plays c d at l r d′) where
+  -- whether it fits is a matter of its lines
+  fits-is : frameFits c d at ≡ leb (at + length (frameLines c)) (length d)
+  fits-is = ap (λ (b : Bool). b && leb (at + length (frameLines c)) (length d)) (lt-ltb (c .frame) 4294967295 next)
 
-  pub fares-not : leb (at + length (frameLines c)) (length d) ≡ false → Fares c d at (c .servers) (record { frame = c .frame; at = at; full = true }) d
-  fares-not h = record { full = sym (ap not h); steps = let none : _≡_ {A = ℕ} (choose true 0 1) 0 = chosen 1 refl in rw none (no-step c) }
+  full-is : r .full ≡ not (leb (at + length (frameLines c)) (length d))
+  full-is = v .full ∙ ap not fits-is
+
+  pub fares-one : r .full ≡ false → Fares c d at l (record { frame = c .frame + 1; at = r .at; full = false }) d′
+  fares-one f =
+      let fit : frameFits c d at ≡ true = not-some _ (sym (v .full) ∙ f) in
+      let room : at + length (frameLines c) ≤ length d = leb-true _ _ (sym fits-is ∙ fit) in
+      let o : Out true d at (frameLines c) (r .at) d′ =
+      record {
+        end = λ h. v .place ∙ chosen at fit ∙ sym (after-fits d at (frameLines c) room);
+        is = λ t h. v .slice ∙ chosen d fit;
+        dry = λ t. absurd (clash refl t);
+      } in
+      record { full = sym f ∙ full-is; steps = let one : _≡_ {A = ℕ} (choose false 0 1) 1 = other 0 refl in rw one (one-step c (v .servers ∙ chosen _ fit) o) }
+
+  pub fares-not : r .full ≡ true → Fares c d at l (record { frame = c .frame; at = at; full = true }) d′
+  fares-not f =
+      let fit : frameFits c d at ≡ false = not-so _ (sym (v .full) ∙ f) in
+      let none : _≡_ {A = ℕ} (choose true 0 1) 0 = chosen 1 refl in
+      let same : d′ ≡ d = v .slice ∙ other _ fit in
+      let stay : l ≡ c .servers = v .servers ∙ other _ fit in
+      record { full = sym f ∙ full-is; steps = rw none (rw same (rw stay (no-step c))) }
 
 -- ---- a jump, then one frame if it fits
 
@@ -221,10 +241,10 @@ module _ {c : State} {target : ℕ} {d₀ : List ℕ} where
         (λ e. let is : _≡_ {A = ℕ} (choose (r .full) 0 1) 1 = other 0 e in let some = g .some e in let within = g .within in omega (arith, frame-then))
 
   pub within-end :
-      {d : List ℕ} {w : List ℕ} {t at : ℕ} {full : Bool} → Within c target d₀ d (serversOf w) t at full → (ltb t target && not full) ≡ false →
-      MovesWithin c target d₀ (record { words = w; frame = t; at = at }) d
+      {d : List ℕ} {l : List Server} {t at : ℕ} {full : Bool} → Within c target d₀ d l t at full → (ltb t target && not full) ≡ false →
+      MovesWithin c target d₀ (record { servers = l; frame = t; at = at }) d
   unfolding fitting
-  within-end {d} {w} {t} {at} {full} v h =
+  within-end {d} {l} {t} {at} {full} v h =
       let n = v .count in
       let m = target - c .frame - n in
       let enough = v .enough in
@@ -244,9 +264,20 @@ module _ {c : State} {target : ℕ} {d₀ : List ℕ} where
           let reached : target ≤ t = ⊎-elim (λ z. absurd (clash (and-true (lt-ltb t target z) (ap not e)) h)) (λ z. z) (less t target) in
           ap (λ (k : ℕ). fitting k (advancedBy (v .count) c) (length d₀ - length (linesBy (v .count) c))) (let z : target - c .frame - v .count ≡ 0 = omega arith in z)
 
+-- where all frames fit, all of them are made
+pub all-within :
+    (c : State) (target : ℕ) {d : List ℕ} {r : Stepped} {d′ : List ℕ} → MovesWithin c target d r d′ → length (linesBy (target - c .frame) c) ≤ length d →
+    (movedTo c (r .frame) (r .servers) ≡ advancedBy (target - c .frame) c) × Out true d 0 (linesBy (target - c .frame) c) (r .at) d′
+unfolding fitting
+all-within c target {d} {r} {d′} v h =
+    let n = target - c .frame in
+    let zero-more : n ≡ n + 0 = omega arith in
+    let all : framesWithin c target (length d) ≡ n = ap (λ (k : ℕ). fitting k c (length d)) zero-more ∙ fit-add n 0 c (length d) h ∙ sym zero-more in
+    (v .channel ∙ ap (λ (k : ℕ). advancedBy k c) all, out-as (ap (λ (k : ℕ). linesBy k c) all) (v .out))
+
 -- ---- the answer
 
-module _ (c : State) (target : ℕ) {d : List ℕ} {r : Played} {d′ : List ℕ} (v : MovesWithin c target d r d′) where
+module _ (c : State) (target : ℕ) {d : List ℕ} {r : Stepped} {d′ : List ℕ} (v : MovesWithin c target d r d′) where
   abbrev frames : ℕ
   frames = framesWithin c target (length d)
 
@@ -254,16 +285,16 @@ module _ (c : State) (target : ℕ) {d : List ℕ} {r : Played} {d′ : List ℕ
   frame-within = ap (λ (x : State). x .frame) (v .channel) ∙ frame-after frames c
 
   -- there are frames to go and none fits
-  pub within-short : (ltb (c .frame) target && eqb (r .frame) (c .frame)) ≡ true → Gives c (withinGoes c target (length d)) d (Refused Short) 0 (movedTo c (c .frame) (serversOf (r .words))) d′
+  pub within-short : (ltb (c .frame) target && eqb (r .frame) (c .frame)) ≡ true → Gives c (withinGoes c target (length d)) d (Refused Short) 0 (movedTo c (c .frame) (r .servers)) d′
   unfolding linesBy advancedBy
   within-short e =
       let same = eqb-true (r .frame) (c .frame) (snd-true (ltb (c .frame) target) _ e) in
       let none : frames ≡ 0 = omega (arith, frame-within, same) in
       let kept : d′ ≡ d = v .out .is refl (omega (arith, v .fits)) ∙ ap (λ (k : ℕ). splice d 0 (linesBy k c)) none ∙ splice-none d 0 in
-      let stays : movedTo c (c .frame) (serversOf (r .words)) ≡ c = ap (λ (t : ℕ). movedTo c t (serversOf (r .words))) (sym same) ∙ v .channel ∙ ap (λ (k : ℕ). advancedBy k c) none in
+      let stays : movedTo c (c .frame) (r .servers) ≡ c = ap (λ (t : ℕ). movedTo c t (r .servers)) (sym same) ∙ v .channel ∙ ap (λ (k : ℕ). advancedBy k c) none in
       rw kept (rw stays (gives-refused c (withinGoes c target (length d)) d Short (chosen 0 (and-true (fst-true (ltb (c .frame) target) _ e) (eq-eqb frames 0 none)))))
 
-  pub within-fits : (ltb (c .frame) target && eqb (r .frame) (c .frame)) ≡ false → Gives c (withinGoes c target (length d)) d Accepted (r .at) (movedTo c (r .frame) (serversOf (r .words))) d′
+  pub within-fits : (ltb (c .frame) target && eqb (r .frame) (c .frame)) ≡ false → Gives c (withinGoes c target (length d)) d Accepted (r .at) (movedTo c (r .frame) (r .servers)) d′
   within-fits e =
       let free : (ltb (c .frame) target && eqb frames 0) ≡ false = ap (λ (b : Bool). ltb (c .frame) target && b) same ∙ e in
       gives-so c (withinGoes c target (length d)) d (is-long (withinGoes c target (length d)) (length d) (other 9 free) (v .fits))
@@ -283,5 +314,5 @@ pub quiet-fits :
 quiet-fits t p w l target d h j =
     let c = stateOf t p (serversOf w) l in
     let g = stretch-jump c j {d = d} {at = 0} (omega arith) h (omega arith) in
-    let v = within-end {w = w} (within-turn within-begin g refl) (and-left _ (le-ltb target target (omega arith))) in
+    let v = within-end (within-turn within-begin g refl) (and-left _ (le-ltb target target (omega arith))) in
     within-fits c target v (and-right (ltb t target) (ne-eqb target t (λ z. omega arith)))

@@ -1,17 +1,4 @@
-pub mod Words
-pub mod Writing
-pub mod Telling
-pub mod Hearings
-pub mod Heeding
-pub mod Lookup
-pub mod Frames
-pub mod Quiet
 pub mod Playing
-pub mod Still
-pub mod Unheard
-pub mod Listing
-pub mod Loud
-pub mod Bound
 pub mod Fitting
 pub mod Pulsing
 pub mod Beating

@@ -10,19 +10,18 @@ use borrow.Author.Tests.{lt-ltb, le-ltb}
 use lib.Dec.{ltb}
 use lib.ListN.{length}
 use Rattle.lists.specs.Choice.{choose}
-use Rattle.lists.proofs.Cases.{less, chosen, other}
+use Rattle.lists.proofs.Cases.{less, chosen, other, clash}
 use Rattle.server.specs.declared.Period.{Period}
 use Rattle.server.specs.declared.Server.{Server}
 use Rattle.group.specs.declared.State.{State}
-use Rattle.frames.specs.Words.{serversOf}
 use Rattle.group.specs.Frame.{advanced, frameLines, movedTo}
 use Rattle.group.specs.Advance.{advancedBy, linesBy}
-use Rattle.frames.specs.Steps.{Ran, Stepped, Out, Still, Ranked, anySent, Runs, TicksAll, Moves, AllRest, Before, Steps, Jumps, Goes}
-use Rattle.frames.specs.Answers.{stateOf}
+use Rattle.frame.specs.Answers.{stateOf, Counts}
+use Rattle.frame.specs.Steps.{Out, anySent, AllRest}
+use Rattle.frames.specs.Steps.{Stepped, Before, Steps, Jumps, Goes}
 use Rattle.group.proofs.Places.{frame-after}
-use Rattle.frames.proofs.Writing.{Toward, start, begin, turn, finish}
-use Rattle.frames.proofs.Quiet.{ticks-frame, skip}
-use Rattle.frames.proofs.Still.{still-after}
+use Rattle.frame.proofs.Writing.{Toward, start, begin, turn, finish}
+use Rattle.frame.proofs.Quiet.{skip}
 
 pub advanced-add : (k m : ℕ) (c : State) → advancedBy (k + m) c ≡ advancedBy m (advancedBy k c)
 unfolding advancedBy
@@ -49,23 +48,18 @@ pub no-step : (c : State) {wet : Bool} {d : List ℕ} {at : ℕ} → Steps wet 0
 unfolding advancedBy linesBy
 no-step c = record { channel = refl; out = start }
 
--- a frame in which only timers run, after one in which nobody sent
-pub ticks-run :
-    (c : State) → anySent (c .servers) ≡ false → length (c .servers) ≡ 16 → {wet : Bool} {d : List ℕ} {at : ℕ} {r : Ran} {d′ : List ℕ} →
-    TicksAll wet (c .frame + 1) (c .period) (c .servers) d at r d′ → Runs wet c d at r d′
-ticks-run c quiet long {wet} {d} {at} {r} {d′} v =
-    let q = ticks-frame c quiet long in
-    record { servers = v .servers ∙ sym (q .0); out = subst (λ (x : List ℕ). Out wet d at x (r .at) d′) (sym (q .1)) (v .out) }
+-- the next frame, which is before the target, counted
+pub next-counted :
+    (c : State) (target : ℕ) {d : List ℕ} {at : ℕ} {l : List Server} {n : ℕ} {d′ : List ℕ} → c .frame < target → c .frame < 4294967295 → Counts c d at l n d′ →
+    Steps false (choose (ltb (c .frame) target) 1 0) c d at (record { servers = l; frame = c .frame + 1; at = n }) d′
+next-counted c target {d} {at} {l} {n} {d′} h g v =
+    let has = lt-ltb (c .frame) 4294967295 g in
+    let o : Out false d at (frameLines c) n d′ = record { end = λ k. v .place ∙ chosen at has; is = λ t k. absurd (clash t refl); dry = λ t. v .slice } in
+    subst (λ (k : ℕ). Steps false k c d at (record { servers = l; frame = c .frame + 1; at = n }) d′) (sym (chosen 0 (lt-ltb (c .frame) target h)))
+    (one-step c (v .servers ∙ chosen (c .servers) has) o)
 
--- the next frame, unless the target is reached
+-- none where the target is reached
 module _ (c : State) (target : ℕ) {wet : Bool} {d : List ℕ} {at : ℕ} where
-  pub next-step :
-      {r : Ran} {d′ : List ℕ} → c .frame < target → Runs wet c d at r d′ →
-      Steps wet (choose (ltb (c .frame) target) 1 0) c d at (record { servers = r .servers; frame = c .frame + 1; at = r .at }) d′
-  next-step {r} {d′} h v =
-      subst (λ (k : ℕ). Steps wet k c d at (record { servers = r .servers; frame = c .frame + 1; at = r .at }) d′) (sym (chosen 0 (lt-ltb (c .frame) target h)))
-      (one-step c (v .servers) (v .out))
-
   pub next-none : target ≤ c .frame → Steps wet (choose (ltb (c .frame) target) 1 0) c d at (record { servers = c .servers; frame = c .frame; at = at }) d
   next-none h =
       subst (λ (k : ℕ). Steps wet k c d at (record { servers = c .servers; frame = c .frame; at = at }) d) (sym (other 1 (le-ltb (c .frame) target h))) (no-step c)
@@ -174,21 +168,7 @@ module _ {wet : Bool} {c : State} {target : ℕ} {d₀ : List ℕ} {at₀ : ℕ}
       }
 
 pub play-end :
-    {wet : Bool} {c : State} {target : ℕ} {d₀ : List ℕ} {w : List ℕ} {t : ℕ} {d : List ℕ} {at : ℕ} → Playing wet c target d₀ 0 d (serversOf w) t at → target ≤ t →
-    Moves wet c target d₀ (record { words = w; frame = t; at = at }) d
-unfolding advancedBy linesBy
-play-end {wet} {c} {target} {d₀} {w} {t} v h =
-    let z : target - t ≡ 0 = omega arith in
-    record {
-      channel = ap (λ (n : ℕ). advancedBy n (movedTo c t (serversOf w))) (sym z) ∙ v .rest;
-      out = finish (v .out) (ap (λ (n : ℕ). linesBy n (movedTo c t (serversOf w))) z);
-    }
-
--- ---- after some frames: who was still is still, and the ranks are the same
-
-module _ {wet : Bool} {k : ℕ} {c : State} {d : List ℕ} {at : ℕ} {r : Stepped} {d′ : List ℕ} (p : Steps wet k c d at r d′) (long : length (c .servers) ≡ 16) where
-  servers-then : advancedBy k c .servers ≡ r .servers
-  servers-then = sym (ap (λ (x : State). x .servers) (p .channel))
-
-  pub steps-still : {n : ℕ} → Still n (c .servers) → Still n (r .servers)
-  steps-still {n} v = subst (Still n) servers-then (still-after k c long v)
+    {wet : Bool} {c : State} {target : ℕ} {d₀ : List ℕ} {l : List Server} {t : ℕ} {d : List ℕ} {at : ℕ} → Playing wet c target d₀ 0 d l t at → target ≤ t →
+    Out wet d₀ 0 (linesBy (target - c .frame) c) at d
+unfolding linesBy
+play-end {wet} {c} {target} {d₀} {l} {t} v h = finish (v .out) (ap (λ (n : ℕ). linesBy n (movedTo c t l)) (let z : target - t ≡ 0 = omega arith in z))

@@ -33,12 +33,13 @@ use Rattle.group.specs.Hearing.{place, linkOf, whole, hearsFrom, comes, over, n
 use Rattle.group.specs.Frame.{heardAll, heardLines, timedLines, hearing, turned, turnLines, turnsLines, movedTo, advanced, frameLines}
 use Rattle.group.specs.Advance.{advancedBy, linesBy}
 use Rattle.group.proofs.Places.{map-at, length-from, place-advanced, long-advanced}
-use Rattle.frames.specs.Answers.{stateOf}
-use Rattle.frames.specs.Steps.{sentBelow, isBackup, isPrimary, onlyListens, stillIn, isStill, anySent, ticksIn, ticked, tickLines, resting, NotDue, Rests, AllRest, pulsed, Listens, Calm, beatLines}
-use Rattle.frames.proofs.Quiet.{due-from, no-timer, rests-backup, rests-primary, primary-beats, clear-already, ticks-frame, skip}
-use Rattle.frames.proofs.Hearings.{just-listens}
-use Rattle.frames.proofs.Lookup.{among-sent, bestOf, some-after, none-after}
-use Rattle.frames.proofs.Still.{still-rests, still-turned, still-unsent}
+use Rattle.frame.specs.Answers.{isBackup, isPrimary, stillIn, isStill, stateOf}
+use Rattle.frame.specs.Steps.{sentBelow, onlyListens, anySent, ticksIn, ticked, tickLines, resting, NotDue, Rests, AllRest}
+use Rattle.frames.specs.Steps.{pulsed, Listens, Calm, beatLines}
+use Rattle.frame.proofs.Quiet.{due-from, no-timer, rests-backup, rests-primary, primary-beats, clear-already, ticks-frame, skip}
+use Rattle.frame.proofs.Hearings.{just-listens}
+use Rattle.frame.proofs.Lookup.{among-sent, bestOf, some-after, none-after}
+use Rattle.frame.proofs.Still.{still-rests, still-turned, still-unsent}
 use Rattle.frames.proofs.Playing.{advanced-add, lines-add}
 
 -- ---- who is heard where one place sent

@@ -1,20 +1,13 @@
 -- What an advance of the servers answers.
-use mathlib.Core.Bool.{Bool}
 use mathlib.Core.List.{List}
 use Prim.Native.Nat.{ℕ}
-use Rattle.server.specs.declared.Period.{Period}
-use Rattle.server.specs.declared.Server.{Server}
 use Rattle.group.specs.declared.State.{State}
 use Rattle.group.specs.Outcome.{Outcome}
 use Rattle.group.specs.Answers.{Gives}
 use Rattle.group.specs.Frame.{movedTo}
 use Rattle.frames.specs.declared.Advance.{Advance}
 use Rattle.frames.specs.declared.Ran.{Ran}
-use Rattle.frames.specs.Words.{serversOf}
-
--- the channel in frame t with the period p, the servers l and the links w
-abbrev pub stateOf : ℕ → Period → List Server → List Bool → State
-stateOf t p l w = record { frame = t; period = p; servers = l; whole = w }
+use Rattle.frame.specs.Words.{serversOf}
 
 -- an advance of the channel c with the lent slice d: its answer, and the slice afterwards. Period and links stay
 abbrev pub Advances : State → Outcome → List ℕ → Advance → List ℕ → Type 0

@@ -1,9 +1,6 @@
-// One frame after another: what the servers hear, their timers, and the lines of it.
-use group::Table;
-use heartbeat::Heartbeat;
+// Frames one after another: those in which nothing happens are jumped over, and beats of a calm group come many at a time.
 use refusal::Refusal;
 use refusal::Verdict;
-use server::Event;
 use server::Period;
 use server::Role;
 use server::Said;
@@ -11,1073 +8,19 @@ use server::Server;
 use server::Word;
 ghost use mathlib.Core.Path.{_≡_};
 ghost use mathlib.Core.Bool.{Bool};
-ghost use mathlib.Core.List.{[], _∷_};
 ghost use Prim.Native.Nat.{_+_, _-_, _<_, _≤_};
-ghost use lib.Dec.{leb, ltb, eqb};
-ghost use lib.ListN.{length, replicate, take, getD, set};
+ghost use lib.Dec.{leb, ltb};
+ghost use lib.ListN.{length, getD, set};
 ghost use Rattle.lists.specs.Choice.{choose};
 ghost use Rattle.lists.specs.Lists.{mapFrom};
 ghost use Rattle.server.specs.Period.{beatLimit};
-ghost use Rattle.server.specs.Server.{absent, setSilence, setBeat, oneMore, sendBeat, cleared, passOf, sentBy};
-ghost use Rattle.server.specs.Verbs.{roleNumber};
-ghost use Rattle.server.specs.Words.{said};
-ghost use Rattle.server.specs.Timers.{aged, timed};
-ghost use Rattle.lines.specs.Lines.{linesOf};
-ghost use Rattle.group.specs.Table.{placeIn};
-ghost use Rattle.group.specs.Hearing.{isPlace};
-ghost use Rattle.group.specs.Frame.{timedLines, frameLines};
-ghost use Rattle.group.specs.Advance.{timeGoes, withinGoes};
-ghost use Rattle.frames.specs.Words.{roleOf, rankNumber, sendingNumber, serverOf, serversOf};
-ghost use Rattle.frames.specs.Answers.{stateOf, Advances, AdvancesIn};
-ghost use Rattle.frames.specs.Steps.{Out, Hears, Does, isProspect, takesPart, staysUnder, heedsOnly, JustListens, isBackup, isPrimary, onlyListens, senderOf, Ranked, isStill, Still, overBy, comesBy, bestIn, Near, inboxBy, Deaf, clearing, Listed, Numbers, Sends, Lists, Turns, ticksIn, Runs, TicksAt, TicksAll, Moves, NotDue, Rests, AllRest, Before, Steps, Goes, Loud, Jumps, mostBytes, Fares, Stretches, MovesWithin, pulsed, Waits, AllWait, Calm, Beats, HeardAlso, Hearers};
-
-// The lines of an event, written or only counted.
-fn say_event(out: &mut [u8], wet: bool, at: usize, frame: u32, identity: u16, event: Event) -> usize
-    ensures { λ r. ⌜ Out wet (now (out .entry)) at (linesOf frame identity (said event)) r (now (out .exit)) ⌝ }
-{
-    let said = event.said();
-    match said {
-        Said::Nothing => at,
-        Said::One(w) => lines::say(out, wet, at, frame, identity, Said::One(w)),
-        Said::Two(v, w) => lines::say(out, wet, at, frame, identity, Said::Two(v, w)),
-    }
-}
-
-// ---- hearing
-
-// A server, and the place after what it said.
-struct Told {
-    server: Server,
-    at: usize,
-}
-
-fn hear_one(s: Server, frame: u32, h: Heartbeat, out: &mut [u8], wet: bool, at: usize) -> Told
-    ensures { λ r. ⌜ Hears frame wet s (h ∷ []) (now (out .entry)) at r (now (out .exit)) ⌝ }
-{
-    let heard = s.hear(frame, h);
-    let next = heard.server;
-    let event = heard.event;
-    let after = say_event(out, wet, at, frame, s.identity, event);
-    Told {
-        server: next,
-        at: after,
-    }
-}
-
-fn hear_beats(
-    s: Server,
-    frame: u32,
-    h: Heartbeat,
-    n: u8,
-    out: &mut [u8],
-    wet: bool,
-    at: usize,
-) -> Told
-    ensures { λ r. ⌜ Hears frame wet s (replicate n h) (now (out .entry)) at r (now (out .exit)) ⌝ }
-{
-    let mut now = s;
-    let mut r = at;
-    let mut k = 0;
-    while k < n {
-        let t = hear_one(now, frame, h, out, wet, r);
-        now = t.server;
-        r = t.at;
-        k += 1;
-    }
-    Told { server: now, at: r }
-}
-
-fn hear_if(
-    yes: bool,
-    s: Server,
-    frame: u32,
-    h: Heartbeat,
-    out: &mut [u8],
-    wet: bool,
-    at: usize,
-) -> Told
-    ensures { λ r. ⌜ Hears frame wet s (choose yes (h ∷ []) []) (now (out .entry)) at r (now (out .exit)) ⌝ }
-{
-    if yes {
-        hear_one(s, frame, h, out, wet, at)
-    } else {
-        Told { server: s, at }
-    }
-}
-
-fn hear_pass(s: Server, frame: u32, sender: Server, out: &mut [u8], wet: bool, at: usize) -> Told
-    ensures { λ r. ⌜ Hears frame wet s (choose (eqb (sender .pass) 0) [] (passOf sender ∷ [])) (now (out .entry)) at r (now (out .exit)) ⌝ }
-{
-    if sender.pass == 0 {
-        Told { server: s, at }
-    } else {
-        hear_one(s, frame, sender.passing(), out, wet, at)
-    }
-}
-
-// One sender's heartbeats, in the order sent.
-fn hear_each(s: Server, frame: u32, sender: Server, out: &mut [u8], wet: bool, at: usize) -> Told
-    ensures { λ r. ⌜ Hears frame wet s (sentBy sender) (now (out .entry)) at r (now (out .exit)) ⌝ }
-{
-    let a = hear_beats(s, frame, sender.plain(), sender.beats, out, wet, at);
-    let b = hear_if(
-        sender.reveal,
-        a.server,
-        frame,
-        sender.revealing(),
-        out,
-        wet,
-        a.at,
-    );
-    hear_pass(b.server, frame, sender, out, wet, b.at)
-}
-
-fn is_backup(role: Role) -> bool
-    ensures { λ r. ⌜ r ≡ isBackup role ⌝ }
-{
-    match role {
-        Role::Down => false,
-        Role::Idle => false,
-        Role::Sync => false,
-        Role::Backup => true,
-        Role::Prospect => false,
-        Role::Primary => false,
-    }
-}
-
-// A backup that hears plain beats only says nothing.
-fn only_listens(s: Server, sender: Server) -> bool
-    ensures { λ r. ⌜ r ≡ onlyListens s sender ⌝ }
-{
-    let role = s.role;
-    is_backup(role) & ((sender.beats != 0) & (!sender.reveal & (sender.pass == 0)))
-}
-
-fn run_timers(s: Server, frame: u32, period: Period, out: &mut [u8], wet: bool, at: usize) -> Told
-    ensures { λ r. ⌜ Does wet (timed frame period s .server) (timedLines frame (s .identity) (timed frame period s)) (now (out .entry)) at r (now (out .exit)) ⌝ }
-{
-    let t = s.timers(frame, period);
-    let next = t.server;
-    let silent = t.silent;
-    let beating = t.beating;
-    let rising = t.rising;
-    let a = say_event(out, wet, at, frame, s.identity, silent);
-    let b = say_event(out, wet, a, frame, s.identity, beating);
-    let r = say_event(out, wet, b, frame, s.identity, rising);
-    Told {
-        server: next,
-        at: r,
-    }
-}
-
-fn one_more(n: u8) -> u8
-    ensures { λ r. ⌜ r ≡ oneMore n ⌝ }
-{
-    if n < 15 { n + 1 } else { 15 }
-}
-
-// A beat sent, and the beat timer set.
-fn beaten(s: Server, frame: u32) -> Server
-    ensures { λ r. ⌜ r ≡ sendBeat (setBeat frame s) ⌝ }
-{
-    let mut next = s;
-    next.beat = frame;
-    next.beats = one_more(s.beats);
-    next
-}
-
-fn is_primary(role: Role) -> bool
-    ensures { λ r. ⌜ r ≡ isPrimary role ⌝ }
-{
-    match role {
-        Role::Down => false,
-        Role::Idle => false,
-        Role::Sync => false,
-        Role::Backup => false,
-        Role::Prospect => false,
-        Role::Primary => true,
-    }
-}
-
-// The timers of a server of which one is due: a primary beats.
-fn run_due(s: Server, frame: u32, period: Period, out: &mut [u8], wet: bool, at: usize) -> Told
-    requires { ⌜ ticksIn (s .role) frame period s ≡ Bool.true ⌝ }
-    ensures { λ r. ⌜ Does wet (timed frame period s .server) (timedLines frame (s .identity) (timed frame period s)) (now (out .entry)) at r (now (out .exit)) ⌝ }
-{
-    let role = s.role;
-    if is_primary(role) {
-        let after = lines::say(out, wet, at, frame, s.identity, Said::One(Word::Beat));
-        let next = beaten(s, frame);
-        Told {
-            server: next,
-            at: after,
-        }
-    } else {
-        run_timers(s, frame, period, out, wet, at)
-    }
-}
-
-// ---- servers as numbers
-
-fn role_number(role: Role) -> u32
-    ensures { λ r. ⌜ r ≡ roleNumber role ⌝ }
-{
-    match role {
-        Role::Down => 0,
-        Role::Idle => 1,
-        Role::Sync => 2,
-        Role::Backup => 3,
-        Role::Prospect => 4,
-        Role::Primary => 5,
-    }
-}
-
-fn role_of(n: u32) -> Role
-    ensures { λ r. ⌜ r ≡ roleOf n ⌝ }
-{
-    match n {
-        0 => Role::Down,
-        1 => Role::Idle,
-        2 => Role::Sync,
-        3 => Role::Backup,
-        4 => Role::Prospect,
-        _ => Role::Primary,
-    }
-}
-
-// The greater the number, the higher the server.
-fn rank_number(s: Server) -> u32
-    ensures { λ r. ⌜ (r ≡ rankNumber s) × ((s .identity < 65536) × (s .priority < 256)) ⌝ }
-{
-    (s.priority as u32) * 65536 + (s.identity as u32)
-}
-
-fn flag(set: bool) -> u32
-    ensures { λ r. ⌜ r ≡ choose set 1 0 ⌝ }
-{
-    if set { 1 } else { 0 }
-}
-
-// 0 where nothing was sent.
-fn sending_number(s: Server) -> u32
-    ensures { λ r. ⌜ (r ≡ sendingNumber s) × ((s .beats < 256) × (s .pass < 65536)) ⌝ }
-{
-    ((s.beats as u32) * 2 + flag(s.reveal)) * 65536 + (s.pass as u32)
-}
-
-fn server_of(head: u32, silence: u32, beat: u32, prospect: u32, sending: u32) -> Server
-    ensures { λ r. ⌜ r ≡ serverOf head silence beat prospect sending ⌝ }
-{
-    Server {
-        identity: (head % 65536) as u16,
-        priority: (head / 65536 % 256) as u8,
-        role: role_of(head / 16777216),
-        silence,
-        beat,
-        prospect,
-        beats: (sending / 131072 % 256) as u8,
-        reveal: sending / 65536 % 2 == 1,
-        pass: (sending % 65536) as u16,
-    }
-}
-
-// The server of place i.
-fn server_at(words: &[u32; 80], i: usize) -> Server
-    requires { ⌜ i < 16 ⌝ }
-    ensures { λ r. ⌜ r ≡ getD (serversOf (now (words .entry))) i absent ⌝ }
-{
-    let k = 5 * i;
-    server_of(
-        words[k],
-        words[k + 1],
-        words[k + 2],
-        words[k + 3],
-        words[k + 4],
-    )
-}
-
-// The server of place i replaced.
-fn store(words: &mut [u32; 80], i: usize, s: Server)
-    requires { ⌜ (length (now words) ≡ 80) × (i < 16) ⌝ }
-    ensures { λ _. ⌜ (length (now (words .exit)) ≡ 80) × (serversOf (now (words .exit)) ≡ set (serversOf (now (words .entry))) i s) ⌝ }
-{
-    let k = 5 * i;
-    let role = s.role;
-    let head = role_number(role) * 16777216 + rank_number(s);
-    let sending = sending_number(s);
-    words[k] = head;
-    words[k + 1] = s.silence;
-    words[k + 2] = s.beat;
-    words[k + 3] = s.prospect;
-    words[k + 4] = sending;
-}
-
-// The servers as numbers.
-pub fn words_of(servers: [Server; 16]) -> [u32; 80]
-    ensures { λ r. ⌜ serversOf r ≡ servers ⌝ }
-{
-    let mut words: [u32; 80] = [0; 80];
-    let mut i: usize = 0;
-    while i < 16 {
-        store(&mut words, i, servers[i]);
-        i += 1;
-    }
-    words
-}
-
-// The servers of the numbers.
-pub fn servers_of(words: &[u32; 80]) -> [Server; 16]
-    ensures { λ r. ⌜ r ≡ serversOf (now (words .entry)) ⌝ }
-{
-    let nobody = Server::absent();
-    let mut servers = [nobody; 16];
-    let mut i: usize = 0;
-    while i < 16 {
-        let s = server_at(words, i);
-        servers[i] = s;
-        i += 1;
-    }
-    servers
-}
-
-// The server of place i; nobody beyond the last place.
-pub fn server(words: &[u32; 80], i: usize) -> Server
-    ensures { λ r. ⌜ r ≡ getD (serversOf (now (words .entry))) i absent ⌝ }
-{
-    if i < Table::SERVERS {
-        server_at(words, i)
-    } else {
-        Server::absent()
-    }
-}
-
-fn stored(words: [u32; 80], i: usize, s: Server) -> [u32; 80]
-    ensures { λ r. ⌜ serversOf r ≡ set (serversOf words) i s ⌝ }
-{
-    let mut next = words;
-    if i < Table::SERVERS {
-        store(&mut next, i, s);
-    }
-    next
-}
-
-// The server of place i replaced; nothing beyond the last place.
-pub fn put(words: &mut [u32; 80], i: usize, s: Server)
-    ensures { λ _. ⌜ serversOf (now (words .exit)) ≡ set (serversOf (now (words .entry))) i s ⌝ }
-{
-    let next = stored(*words, i, s);
-    *words = next;
-}
-
-// The place of an identity; beyond the last place where there is none.
-pub fn place_in(words: &[u32; 80], identity: u16) -> usize
-    ensures { λ r. ⌜ r ≡ placeIn (serversOf (now (words .entry))) identity ⌝ }
-{
-    let mut i: usize = 0;
-    while i < Table::SERVERS {
-        let s = server_at(words, i);
-        if s.identity == identity {
-            return i;
-        }
-        i += 1;
-    }
-    i
-}
-
-fn ranks_of(words: &[u32; 80]) -> [u32; 16]
-    ensures { λ r. ⌜ Ranked r (serversOf (now (words .entry))) ⌝ }
-{
-    let mut ranks: [u32; 16] = [0; 16];
-    let mut i: usize = 0;
-    while i < 16 {
-        let rank = rank_number(server_at(words, i));
-        ranks[i] = rank;
-        i += 1;
-    }
-    ranks
-}
-
-// ---- who does nothing until a verb
-
-// Hears, and has a timer.
-fn takes_part(role: Role) -> bool
-    ensures { λ r. ⌜ r ≡ takesPart role ⌝ }
-{
-    match role {
-        Role::Down => false,
-        Role::Idle => false,
-        Role::Sync => false,
-        Role::Backup => true,
-        Role::Prospect => true,
-        Role::Primary => true,
-    }
-}
-
-// Neither hears nor has a timer, and sent nothing.
-fn is_still(s: Server) -> bool
-    ensures { λ r. ⌜ r ≡ isStill s ⌝ }
-{
-    let role = s.role;
-    !takes_part(role) & !s.sent_any()
-}
-
-// From this place on, all are still: they are left out of every loop.
-fn still_from(words: &[u32; 80]) -> usize
-    ensures { λ r. ⌜ Still r (serversOf (now (words .entry))) ⌝ }
-{
-    let mut n: usize = 16;
-    while n > 0 {
-        if !is_still(server_at(words, n - 1)) {
-            return n;
-        }
-        n -= 1;
-    }
-    n
-}
-
-// ---- who is heard next
-
-fn one_if(n: u32) -> usize
-    ensures { λ r. ⌜ r ≡ choose (eqb n 0) 0 1 ⌝ }
-{
-    if n == 0 { 0 } else { 1 }
-}
-
-// The places of the first n that sent, in rising order: how many they are, and of every place what it sent, as one number.
-fn list_senders(
-    words: &[u32; 80],
-    places: &mut [usize; 16],
-    sendings: &mut [u32; 16],
-    n: usize,
-) -> usize
-    requires { ⌜ Still n (serversOf (now words)) × ((length (now places) ≡ 16) × (now sendings ≡ replicate 16 0)) ⌝ }
-    ensures { λ r. ⌜ Sends (serversOf (now (words .entry))) (now (places .exit)) (now (sendings .exit)) r ⌝ }
-{
-    let mut count: usize = 0;
-    let mut i: usize = 0;
-    while i < n {
-        let sending = sending_number(server_at(words, i));
-        sendings[i] = sending;
-        places[count] = i;
-        count += one_if(sending);
-        i += 1;
-    }
-    count
-}
-
-// A server that sent the same: the rest of it is not looked at.
-fn sender(rank: u32, sending: u32) -> Server
-    requires { ⌜ (rank < 16777216) × (sending < 33554432) ⌝ }
-    ensures { λ r. ⌜ r ≡ senderOf rank sending ⌝ }
-{
-    Server {
-        identity: (rank % 65536) as u16,
-        priority: (rank / 65536) as u8,
-        role: Role::Down,
-        silence: 0,
-        beat: 0,
-        prospect: 0,
-        beats: (sending / 131072) as u8,
-        reveal: sending / 65536 % 2 == 1,
-        pass: (sending % 65536) as u16,
-    }
-}
-
-// Place i comes after the place last.
-fn under_last(ranks: &[u32; 16], last: usize, i: usize) -> bool
-    requires { ⌜ i < 16 ⌝ }
-    ensures { λ r. ⌜ r ≡ choose (isPlace last) (overBy (now (ranks .entry)) last i) Bool.true ⌝ }
-{
-    if last < 16 {
-        ranks[last] > ranks[i]
-    } else {
-        true
-    }
-}
-
-// Place i comes before the best so far.
-fn over_best(ranks: &[u32; 16], best: usize, i: usize) -> bool
-    requires { ⌜ i < 16 ⌝ }
-    ensures { λ r. ⌜ r ≡ choose (isPlace best) (overBy (now (ranks .entry)) i best) Bool.true ⌝ }
-{
-    if best < 16 {
-        ranks[i] > ranks[best]
-    } else {
-        true
-    }
-}
-
-// Of place i, which is heard, and the best so far.
-fn better(ranks: &[u32; 16], last: usize, best: usize, i: usize) -> usize
-    requires { ⌜ i < 16 ⌝ }
-    ensures { λ r. ⌜ r ≡ choose (comesBy (now (ranks .entry)) Bool.true last best i) i best ⌝ }
-{
-    if under_last(ranks, last, i) & over_best(ranks, best, i) {
-        i
-    } else {
-        best
-    }
-}
-
-fn one_for(set: bool) -> usize
-    ensures { λ r. ⌜ r ≡ choose set 1 0 ⌝ }
-{
-    if set { 1 } else { 0 }
-}
-
-// The places of the first `count` listed that place j hears, in their order: how many they are.
-fn list_heard(
-    places: &[usize; 16],
-    whole: &[bool; 256],
-    near: &mut [usize; 16],
-    count: usize,
-    j: usize,
-) -> usize
-    requires { ⌜ (j < 16) × (Listed (now places) count × (length (now near) ≡ 16)) ⌝ }
-    ensures { λ r. ⌜ Near (now (whole .entry)) j (take count (now (places .entry))) (now (near .exit)) r ⌝ }
-{
-    let mut m: usize = 0;
-    let mut k: usize = 0;
-    while k < count {
-        let i = places[k];
-        near[m] = i;
-        m += one_for((i != j) & whole[16 * i + j]);
-        k += 1;
-    }
-    m
-}
-
-// The next of the first m places near after the place last, or 16.
-fn next_sender(near: &[usize; 16], ranks: &[u32; 16], m: usize, last: usize) -> usize
-    requires { ⌜ Listed (now near) m ⌝ }
-    ensures { λ r. ⌜ r ≡ bestIn (now (ranks .entry)) last 16 (take m (now (near .entry))) ⌝ }
-{
-    let mut best: usize = 16;
-    let mut k: usize = 0;
-    while k < m {
-        best = better(ranks, last, best, near[k]);
-        k += 1;
-    }
-    best
-}
-
-fn is_prospect(role: Role) -> bool
-    ensures { λ r. ⌜ r ≡ isProspect role ⌝ }
-{
-    match role {
-        Role::Down => false,
-        Role::Idle => false,
-        Role::Sync => false,
-        Role::Backup => false,
-        Role::Prospect => true,
-        Role::Primary => false,
-    }
-}
-
-// A prospect stays one whatever it hears of a sender of this rank, and of those below it.
-fn stays(s: Server, rank: u32) -> bool
-    ensures { λ r. ⌜ (r ≡ staysUnder s rank) × (s .identity < 65536) ⌝ }
-{
-    let role = s.role;
-    is_prospect(role) & (rank <= rank_number(s))
-}
-
-// A backup only listens to a higher sender that passes to nobody.
-fn heeds(s: Server, rank: u32, sending: u32) -> bool
-    ensures { λ r. ⌜ (r ≡ heedsOnly s rank sending) × (s .identity < 65536) ⌝ }
-{
-    let role = s.role;
-    is_backup(role) & ((rank > rank_number(s)) & ((sending != 0) & (sending % 65536 == 0)))
-}
-
-fn attend(s: Server, frame: u32) -> Server
-    ensures { λ r. ⌜ r ≡ setSilence frame s ⌝ }
-{
-    let mut next = s;
-    next.silence = frame;
-    next
-}
-
-// All that the sender of such numbers sent.
-fn hear_from(
-    s: Server,
-    frame: u32,
-    rank: u32,
-    sending: u32,
-    out: &mut [u8],
-    wet: bool,
-    at: usize,
-) -> Told
-    requires { ⌜ (rank < 16777216) × (sending < 33554432) ⌝ }
-    ensures { λ r. ⌜ Hears frame wet s (sentBy (senderOf rank sending)) (now (out .entry)) at r (now (out .exit)) ⌝ }
-{
-    if heeds(s, rank, sending) {
-        let next = attend(s, frame);
-        Told { server: next, at }
-    } else {
-        let from = sender(rank, sending);
-        hear_each(s, frame, from, out, wet, at)
-    }
-}
-
-// What place j hears, from the highest sender to the lowest.
-fn hear_several(
-    places: &[usize; 16],
-    ranks: &[u32; 16],
-    sendings: &[u32; 16],
-    whole: &[bool; 256],
-    count: usize,
-    frame: u32,
-    j: usize,
-    s: Server,
-    out: &mut [u8],
-    wet: bool,
-    at: usize,
-) -> Told
-    requires { ⌜ (j < 16) × Numbers (record { places = now places; ranks = now ranks; sendings = now sendings; count = count }) ⌝ }
-    ensures { λ r. ⌜ Hears frame wet s (inboxBy (record { places = now (places .entry); ranks = now (ranks .entry); sendings = now (sendings .entry); count = count }) (now (whole .entry)) j) (now (out .entry)) at r (now (out .exit)) ⌝ }
-{
-    let mut near: [usize; 16] = [0; 16];
-    let m = list_heard(places, whole, &mut near, count, j);
-    let mut now = s;
-    let mut r = at;
-    let mut last: usize = 16;
-    let mut k: usize = 0;
-    while k < 16 {
-        let i = next_sender(&near, ranks, m, last);
-        if i >= 16 {
-            return Told { server: now, at: r };
-        }
-        if stays(now, ranks[i]) {
-            return Told { server: now, at: r };
-        }
-        let t = hear_from(now, frame, ranks[i], sendings[i], out, wet, r);
-        now = t.server;
-        r = t.at;
-        last = i;
-        k += 1;
-    }
-    Told { server: now, at: r }
-}
-
-// Whether a timer set in `since` has the age.
-fn aged(since: u32, age: u32, frame: u32) -> bool
-    ensures { λ r. ⌜ r ≡ aged since age frame ⌝ }
-{
-    (since as u64) + (age as u64) == (frame as u64)
-}
-
-// Whether some timer of the server is due.
-fn ticks(s: Server, period: Period, frame: u32) -> bool
-    ensures { λ r. ⌜ r ≡ ticksIn (s .role) frame period s ⌝ }
-{
-    let role = s.role;
-    match role {
-        Role::Down => false,
-        Role::Idle => false,
-        Role::Sync => false,
-        Role::Backup => aged(s.silence, period.silence_limit(), frame),
-        Role::Prospect => {
-            aged(s.beat, period.beat_limit(), frame)
-                | aged(s.prospect, period.prospect_limit(), frame)
-        }
-        Role::Primary => aged(s.beat, period.beat_limit(), frame),
-    }
-}
-
-// The timers of the frame.
-fn tick(s: Server, frame: u32, period: Period, out: &mut [u8], wet: bool, at: usize) -> Told
-    ensures { λ r. ⌜ Does wet (timed frame period s .server) (timedLines frame (s .identity) (timed frame period s)) (now (out .entry)) at r (now (out .exit)) ⌝ }
-{
-    if ticks(s, period, frame) {
-        run_timers(s, frame, period, out, wet, at)
-    } else {
-        Told { server: s, at }
-    }
-}
-
-// The server of place j in the frame: hearing, then timers.
-fn turn(
-    places: &[usize; 16],
-    ranks: &[u32; 16],
-    sendings: &[u32; 16],
-    whole: &[bool; 256],
-    count: usize,
-    frame: u32,
-    period: Period,
-    j: usize,
-    s: Server,
-    out: &mut [u8],
-    wet: bool,
-    at: usize,
-) -> Told
-    requires { ⌜ (j < 16) × Numbers (record { places = now places; ranks = now ranks; sendings = now sendings; count = count }) ⌝ }
-    ensures { λ r. ⌜ Turns (inboxBy (record { places = now (places .entry); ranks = now (ranks .entry); sendings = now (sendings .entry); count = count }) (now (whole .entry)) j) frame period wet s (now (out .entry)) at r (now (out .exit)) ⌝ }
-{
-    let heard = hear_several(
-        places,
-        ranks,
-        sendings,
-        whole,
-        count,
-        frame,
-        j,
-        s.cleared(),
-        out,
-        wet,
-        at,
-    );
-    tick(heard.server, frame, period, out, wet, heard.at)
-}
-
-// Place j is a backup that hears plain beats of one sender, and no timer of it is due then.
-fn just_listens(
-    places: &[usize; 16],
-    ranks: &[u32; 16],
-    sendings: &[u32; 16],
-    whole: &[bool; 256],
-    count: usize,
-    frame: u32,
-    period: Period,
-    j: usize,
-    s: Server,
-) -> bool
-    requires { ⌜ (j < 16) × Numbers (record { places = now places; ranks = now ranks; sendings = now sendings; count = count }) ⌝ }
-    ensures { λ r. ⌜ (r ≡ Bool.true → JustListens (inboxBy (record { places = now (places .entry); ranks = now (ranks .entry); sendings = now (sendings .entry); count = count }) (now (whole .entry)) j) frame period s) ⌝ }
-{
-    if count == 1 {
-        let i = places[0];
-        let from = sender(ranks[i], sendings[i]);
-        ((i != j) & whole[16 * i + j])
-            & (only_listens(s, from) & !aged(frame, period.silence_limit(), frame))
-    } else {
-        false
-    }
-}
-
-// Who hears place i, beside those who hear another.
-fn hear_also(heard: [bool; 16], whole: &[bool; 256], i: usize) -> [bool; 16]
-    requires { ⌜ i < 16 ⌝ }
-    ensures { λ r. ⌜ HeardAlso heard (now (whole .entry)) i r ⌝ }
-{
-    let mut next = heard;
-    let mut j: usize = 0;
-    while j < 16 {
-        next[j] = heard[j] | ((i != j) & whole[16 * i + j]);
-        j += 1;
-    }
-    next
-}
-
-// Which places hear somebody.
-fn hearers(places: &[usize; 16], whole: &[bool; 256], count: usize) -> [bool; 16]
-    requires { ⌜ Listed (now places) count ⌝ }
-    ensures { λ r. ⌜ Hearers (now (places .entry)) (now (whole .entry)) count r ⌝ }
-{
-    let mut heard = [false; 16];
-    let mut k: usize = 0;
-    while k < count {
-        let more = hear_also(heard, whole, places[k]);
-        heard = more;
-        k += 1;
-    }
-    heard
-}
-
-// The turn of a server of place j that hears somebody or has a timer due.
-fn act(
-    places: &[usize; 16],
-    ranks: &[u32; 16],
-    sendings: &[u32; 16],
-    whole: &[bool; 256],
-    count: usize,
-    frame: u32,
-    period: Period,
-    j: usize,
-    s: Server,
-    out: &mut [u8],
-    wet: bool,
-    at: usize,
-) -> Told
-    requires { ⌜ (j < 16) × Numbers (record { places = now places; ranks = now ranks; sendings = now sendings; count = count }) ⌝ }
-    ensures { λ r. ⌜ Turns (inboxBy (record { places = now (places .entry); ranks = now (ranks .entry); sendings = now (sendings .entry); count = count }) (now (whole .entry)) j) frame period wet s (now (out .entry)) at r (now (out .exit)) ⌝ }
-{
-    if just_listens(places, ranks, sendings, whole, count, frame, period, j, s) {
-        let next = attend(s.cleared(), frame);
-        Told { server: next, at }
-    } else {
-        turn(
-            places,
-            ranks,
-            sendings,
-            whole,
-            count,
-            frame,
-            period,
-            j,
-            s,
-            out,
-            wet,
-            at,
-        )
-    }
-}
-
-// The turn of any server of place j; where nothing happens to it, what it sent is cleared.
-fn turn_of(
-    places: &[usize; 16],
-    ranks: &[u32; 16],
-    sendings: &[u32; 16],
-    whole: &[bool; 256],
-    heard: &[bool; 16],
-    count: usize,
-    frame: u32,
-    period: Period,
-    j: usize,
-    s: Server,
-    out: &mut [u8],
-    wet: bool,
-    at: usize,
-) -> Told
-    requires { ⌜ Hearers (now places) (now whole) count (now heard) × ((j < 16) × Numbers (record { places = now places; ranks = now ranks; sendings = now sendings; count = count })) ⌝ }
-    ensures { λ r. ⌜ Turns (inboxBy (record { places = now (places .entry); ranks = now (ranks .entry); sendings = now (sendings .entry); count = count }) (now (whole .entry)) j) frame period wet s (now (out .entry)) at r (now (out .exit)) ⌝ }
-{
-    let role = s.role;
-    if (heard[j] & takes_part(role)) | ticks(s, period, frame) {
-        act(
-            places,
-            ranks,
-            sendings,
-            whole,
-            count,
-            frame,
-            period,
-            j,
-            s,
-            out,
-            wet,
-            at,
-        )
-    } else {
-        let next = s.cleared();
-        Told { server: next, at }
-    }
-}
-
-// The servers after a frame, and the place after what they said.
-struct AfterFrame {
-    servers: [Server; 16],
-    at: usize,
-}
-
-// The heart of the frame: all servers, each after its turn. Those from place n on are still.
-fn turned(
-    servers: [Server; 16],
-    places: &[usize; 16],
-    ranks: &[u32; 16],
-    sendings: &[u32; 16],
-    whole: &[bool; 256],
-    heard: &[bool; 16],
-    count: usize,
-    period: Period,
-    n: usize,
-    before: u32,
-    out: &mut [u8],
-    wet: bool,
-    at: usize,
-) -> AfterFrame
-    requires { ⌜ (before < 4294967295) × (Still n servers × (Hearers (now places) (now whole) count (now heard) × Lists servers (record { places = now places; ranks = now ranks; sendings = now sendings; count = count }))) ⌝ }
-    ensures { λ r. ⌜ Runs wet (stateOf before period servers (now (whole .entry))) (now (out .entry)) at (record { servers = r .servers; at = r .at }) (now (out .exit)) ⌝ }
-{
-    let frame = before + 1;
-    let mut next = servers;
-    let mut r = at;
-    let mut j: usize = 0;
-    while j < n {
-        let s = servers[j];
-        let t = turn_of(
-            places,
-            ranks,
-            sendings,
-            whole,
-            heard,
-            count,
-            frame,
-            period,
-            j,
-            s,
-            out,
-            wet,
-            r,
-        );
-        let after = t.server;
-        next[j] = after;
-        r = t.at;
-        j += 1;
-    }
-    AfterFrame {
-        servers: next,
-        at: r,
-    }
-}
-
-// The same of servers as numbers.
-fn turn_all(
-    words: &mut [u32; 80],
-    places: &[usize; 16],
-    ranks: &[u32; 16],
-    sendings: &[u32; 16],
-    whole: &[bool; 256],
-    heard: &[bool; 16],
-    count: usize,
-    period: Period,
-    n: usize,
-    before: u32,
-    out: &mut [u8],
-    wet: bool,
-    at: usize,
-) -> usize
-    requires { ⌜ (before < 4294967295) × (Still n (serversOf (now words)) × (Hearers (now places) (now whole) count (now heard) × Lists (serversOf (now words)) (record { places = now places; ranks = now ranks; sendings = now sendings; count = count }))) ⌝ }
-    ensures { λ r. ⌜ (length (now (words .exit)) ≡ 80) × Runs wet (stateOf before period (serversOf (now (words .entry))) (now (whole .entry))) (now (out .entry)) at (record { servers = serversOf (now (words .exit)); at = r }) (now (out .exit)) ⌝ }
-{
-    let servers = servers_of(words);
-    let t = turned(
-        servers,
-        places,
-        ranks,
-        sendings,
-        whole,
-        heard,
-        count,
-        period,
-        n,
-        before,
-        out,
-        wet,
-        at,
-    );
-    let after = t.servers;
-    *words = words_of(after);
-    t.at
-}
-
-// The timers of the server at place j, if one is due.
-fn tick_at(
-    words: &mut [u32; 80],
-    j: usize,
-    period: Period,
-    frame: u32,
-    out: &mut [u8],
-    wet: bool,
-    at: usize,
-) -> usize
-    requires { ⌜ (length (now words) ≡ 80) × (j < 16) ⌝ }
-    ensures { λ r. ⌜ (length (now (words .exit)) ≡ 80) × TicksAt wet frame period (serversOf (now (words .entry))) j (now (out .entry)) at (record { servers = serversOf (now (words .exit)); at = r }) (now (out .exit)) ⌝ }
-{
-    let s = server_at(words, j);
-    if ticks(s, period, frame) {
-        let t = run_due(s, frame, period, out, wet, at);
-        store(words, j, t.server);
-        t.at
-    } else {
-        at
-    }
-}
-
-// The first n servers in a frame in which nothing is heard.
-fn tick_all(
-    words: &mut [u32; 80],
-    period: Period,
-    n: usize,
-    before: u32,
-    out: &mut [u8],
-    wet: bool,
-    at: usize,
-) -> usize
-    requires { ⌜ (length (now words) ≡ 80) × ((before < 4294967295) × Still n (serversOf (now words))) ⌝ }
-    ensures { λ r. ⌜ (length (now (words .exit)) ≡ 80) × TicksAll wet (before + 1) period (serversOf (now (words .entry))) (now (out .entry)) at (record { servers = serversOf (now (words .exit)); at = r }) (now (out .exit)) ⌝ }
-{
-    let frame = before + 1;
-    let mut r = at;
-    let mut j: usize = 0;
-    while j < n {
-        r = tick_at(words, j, period, frame, out, wet, r);
-        j += 1;
-    }
-    r
-}
-
-// Whether nobody hears anybody.
-fn nobody_hears(heard: &[bool; 16]) -> bool
-    ensures { λ r. ⌜ (r ≡ Bool.true → Deaf (now (heard .entry)) 16) ⌝ }
-{
-    let mut j: usize = 0;
-    while j < 16 {
-        if heard[j] {
-            return false;
-        }
-        j += 1;
-    }
-    true
-}
-
-// Nothing sent at place j.
-fn clear_at(words: &mut [u32; 80], j: usize)
-    requires { ⌜ (length (now words) ≡ 80) × (j < 16) ⌝ }
-    ensures { λ _. ⌜ (length (now (words .exit)) ≡ 80) × (serversOf (now (words .exit)) ≡ set (serversOf (now (words .entry))) j (cleared (getD (serversOf (now (words .entry))) j absent))) ⌝ }
-{
-    words[5 * j + 4] = 0;
-}
-
-// Nothing sent at any place; those from n on sent nothing.
-fn clear_all(words: &mut [u32; 80], n: usize)
-    requires { ⌜ (length (now words) ≡ 80) × Still n (serversOf (now words)) ⌝ }
-    ensures { λ _. ⌜ (length (now (words .exit)) ≡ 80) × (serversOf (now (words .exit)) ≡ mapFrom 0 clearing (serversOf (now (words .entry)))) ⌝ }
-{
-    let mut j: usize = 0;
-    while j < n {
-        clear_at(words, j);
-        j += 1;
-    }
-}
-
-// The first n servers in a frame in which nobody hears what was sent.
-fn unheard_frame(
-    words: &mut [u32; 80],
-    period: Period,
-    n: usize,
-    before: u32,
-    out: &mut [u8],
-    wet: bool,
-    at: usize,
-) -> usize
-    requires { ⌜ (length (now words) ≡ 80) × ((before < 4294967295) × Still n (serversOf (now words))) ⌝ }
-    ensures { λ r. ⌜ (length (now (words .exit)) ≡ 80) × TicksAll wet (before + 1) period (mapFrom 0 clearing (serversOf (now (words .entry)))) (now (out .entry)) at (record { servers = serversOf (now (words .exit)); at = r }) (now (out .exit)) ⌝ }
-{
-    clear_all(words, n);
-    tick_all(words, period, n, before, out, wet, at)
-}
-
-fn greater(a: u32, b: u32) -> u32
-    ensures { λ r. ⌜ (a ≤ r) × (b ≤ r) ⌝ }
-{
-    if a <= b { b } else { a }
-}
-
-// No server sent a greater number; so nobody sent where it is 0.
-fn loudest(words: &[u32; 80], n: usize) -> u32
-    requires { ⌜ Still n (serversOf (now words)) ⌝ }
-    ensures { λ r. ⌜ Loud (serversOf (now (words .entry))) r ⌝ }
-{
-    let mut most: u32 = 0;
-    let mut i: usize = 0;
-    while i < n {
-        let sending = sending_number(server_at(words, i));
-        most = greater(most, sending);
-        i += 1;
-    }
-    most
-}
+ghost use Rattle.server.specs.Server.{absent};
+ghost use Rattle.group.specs.Advance.{linesBy, timeGoes, withinGoes};
+ghost use Rattle.frame.specs.Words.{sendingNumber, serversOf};
+ghost use Rattle.frame.specs.Answers.{stateOf, isPrimary};
+ghost use Rattle.frame.specs.Steps.{Out, Loud, NotDue, Rests, AllRest};
+ghost use Rattle.frames.specs.Answers.{Advances, AdvancesIn};
+ghost use Rattle.frames.specs.Steps.{Before, Steps, Goes, Jumps, Fares, Stretches, MovesWithin, pulsed, Waits, AllWait, Calm, Beats};
 
 // ---- quiet frames
 
@@ -1120,14 +63,13 @@ fn wakes(s: Server, period: Period, frame: u32) -> u32
 }
 
 // No timer of any server is due after the present frame and before the answer.
-fn next_due(words: &[u32; 80], period: Period, n: usize, frame: u32) -> u32
-    requires { ⌜ Still n (serversOf (now words)) ⌝ }
+fn next_due(words: &[u32; 80], period: Period, frame: u32) -> u32
     ensures { λ r. ⌜ AllRest frame period (serversOf (now (words .entry))) r ⌝ }
 {
     let mut first: u32 = 4294967295;
     let mut i: usize = 0;
-    while i < n {
-        let s = server_at(words, i);
+    while i < 16 {
+        let s = frame::server(words, i);
         first = earlier(first, wakes(s, period, frame));
         i += 1;
     }
@@ -1148,6 +90,28 @@ fn skipped(first: u32, frame: u32, target: u32) -> u32
     }
 }
 
+// Place i sent nothing, by its number as it stands.
+fn sent_none(words: &[u32; 80], i: usize) -> bool
+    requires { ⌜ i < 16 ⌝ }
+    ensures { λ r. ⌜ (r ≡ Bool.true → sendingNumber (getD (serversOf (now (words .entry))) i absent) ≡ 0) ⌝ }
+{
+    words[5 * i + 4] == 0
+}
+
+// Nobody sent.
+fn nobody_sent(words: &[u32; 80]) -> bool
+    ensures { λ r. ⌜ (r ≡ Bool.true → Loud (serversOf (now (words .entry))) 0) ⌝ }
+{
+    let mut i: usize = 0;
+    while i < 16 {
+        if !sent_none(words, i) {
+            return false;
+        }
+        i += 1;
+    }
+    true
+}
+
 // ---- many frames
 
 // The frame reached, and the place after the lines that led there.
@@ -1157,97 +121,32 @@ struct Reached {
 }
 
 // Over the frames in which nothing happens: to the last of them, or to the target.
-fn jump(words: &[u32; 80], period: Period, n: usize, loud: u32, frame: u32, target: u32) -> u32
-    requires { ⌜ (frame < target) × (Still n (serversOf (now words)) × Loud (serversOf (now words)) loud) ⌝ }
+fn jump(words: &[u32; 80], period: Period, silent: bool, frame: u32, target: u32) -> u32
+    requires { ⌜ (frame < target) × (silent ≡ Bool.true → Loud (serversOf (now words)) 0) ⌝ }
     ensures { λ r. ⌜ Jumps period (serversOf (now (words .entry))) frame target r ⌝ }
 {
-    if loud == 0 {
-        let first = next_due(words, period, n, frame);
+    if silent {
+        let first = next_due(words, period, frame);
         skipped(first, frame, target)
     } else {
         frame
     }
 }
 
-// One frame after one in which somebody sent.
-fn heard_frame(
+// The next frame counted, unless the target is reached.
+fn count_next(
     words: &mut [u32; 80],
     whole: &[bool; 256],
     period: Period,
-    n: usize,
-    before: u32,
-    out: &mut [u8],
-    wet: bool,
-    at: usize,
-) -> usize
-    requires { ⌜ (length (now words) ≡ 80) × ((before < 4294967295) × Still n (serversOf (now words))) ⌝ }
-    ensures { λ r. ⌜ (length (now (words .exit)) ≡ 80) × Runs wet (stateOf before period (serversOf (now (words .entry))) (now (whole .entry))) (now (out .entry)) at (record { servers = serversOf (now (words .exit)); at = r }) (now (out .exit)) ⌝ }
-{
-    let mut places: [usize; 16] = [0; 16];
-    let mut sendings: [u32; 16] = [0; 16];
-    let count = list_senders(words, &mut places, &mut sendings, n);
-    let ranks = ranks_of(words);
-    let heard = hearers(&places, whole, count);
-    if nobody_hears(&heard) {
-        return unheard_frame(words, period, n, before, out, wet, at);
-    }
-    turn_all(
-        words,
-        &places,
-        &ranks,
-        &sendings,
-        whole,
-        &heard,
-        count,
-        period,
-        n,
-        before,
-        out,
-        wet,
-        at,
-    )
-}
-
-// One frame.
-fn play_frame(
-    words: &mut [u32; 80],
-    whole: &[bool; 256],
-    period: Period,
-    n: usize,
-    loud: u32,
-    before: u32,
-    out: &mut [u8],
-    wet: bool,
-    at: usize,
-) -> usize
-    requires { ⌜ (length (now words) ≡ 80) × ((before < 4294967295) × (Still n (serversOf (now words)) × Loud (serversOf (now words)) loud)) ⌝ }
-    ensures { λ r. ⌜ (length (now (words .exit)) ≡ 80) × Runs wet (stateOf before period (serversOf (now (words .entry))) (now (whole .entry))) (now (out .entry)) at (record { servers = serversOf (now (words .exit)); at = r }) (now (out .exit)) ⌝ }
-{
-    if loud == 0 {
-        tick_all(words, period, n, before, out, wet, at)
-    } else {
-        heard_frame(words, whole, period, n, before, out, wet, at)
-    }
-}
-
-// The next frame, unless the target is reached.
-fn play_next(
-    words: &mut [u32; 80],
-    whole: &[bool; 256],
-    period: Period,
-    n: usize,
-    loud: u32,
     frame: u32,
     target: u32,
     out: &mut [u8],
-    wet: bool,
     at: usize,
 ) -> Reached
-    requires { ⌜ (length (now words) ≡ 80) × (Still n (serversOf (now words)) × Loud (serversOf (now words)) loud) ⌝ }
-    ensures { λ r. ⌜ (length (now (words .exit)) ≡ 80) × Steps wet (choose (ltb frame target) 1 0) (stateOf frame period (serversOf (now (words .entry))) (now (whole .entry))) (now (out .entry)) at (record { servers = serversOf (now (words .exit)); frame = r .frame; at = r .at }) (now (out .exit)) ⌝ }
+    ensures { λ r. ⌜ Steps Bool.false (choose (ltb frame target) 1 0) (stateOf frame period (serversOf (now (words .entry))) (now (whole .entry))) (now (out .entry)) at (record { servers = serversOf (now (words .exit)); frame = r .frame; at = r .at }) (now (out .exit)) ⌝ }
 {
     if frame < target {
-        let after = play_frame(words, whole, period, n, loud, frame, out, wet, at);
+        let after = frame::count(words, whole, period, frame, out, at);
         Reached {
             frame: frame + 1,
             at: after,
@@ -1258,145 +157,43 @@ fn play_next(
 }
 
 // Some frames more, up to the target: those in which nothing happens are jumped over.
-fn step(
+fn count_on(
     words: &mut [u32; 80],
     whole: &[bool; 256],
     period: Period,
-    n: usize,
     frame: u32,
     target: u32,
     out: &mut [u8],
-    wet: bool,
     at: usize,
 ) -> Reached
-    requires { ⌜ (length (now words) ≡ 80) × ((frame < target) × Still n (serversOf (now words))) ⌝ }
-    ensures { λ r. ⌜ (length (now (words .exit)) ≡ 80) × Goes wet (stateOf frame period (serversOf (now (words .entry))) (now (whole .entry))) target (now (out .entry)) at (record { servers = serversOf (now (words .exit)); frame = r .frame; at = r .at }) (now (out .exit)) ⌝ }
+    requires { ⌜ frame < target ⌝ }
+    ensures { λ r. ⌜ Goes Bool.false (stateOf frame period (serversOf (now (words .entry))) (now (whole .entry))) target (now (out .entry)) at (record { servers = serversOf (now (words .exit)); frame = r .frame; at = r .at }) (now (out .exit)) ⌝ }
 {
-    let loud = loudest(words, n);
-    let start = jump(words, period, n, loud, frame, target);
-    play_next(words, whole, period, n, loud, start, target, out, wet, at)
+    let silent = nobody_sent(words);
+    let start = jump(words, period, silent, frame, target);
+    count_next(words, whole, period, start, target, out, at)
 }
 
-// The servers in the frame reached, and the place after the lines that led there.
-struct Played {
-    words: [u32; 80],
-    frame: u32,
-    at: usize,
-}
-
-// All frames up to the target.
-fn play(
+// All frames up to the target, counted: the place after their lines, or one past the slice's end where they do not fit.
+fn count_all(
     words: [u32; 80],
     whole: &[bool; 256],
     period: Period,
     frame: u32,
     target: u32,
     out: &mut [u8],
-    wet: bool,
-) -> Played
-    ensures { λ r. ⌜ Moves wet (stateOf frame period (serversOf words) (now (whole .entry))) target (now (out .entry)) r (now (out .exit)) ⌝ }
+) -> usize
+    ensures { λ r. ⌜ Out Bool.false (now (out .entry)) 0 (linesBy (target - frame) (stateOf frame period (serversOf words) (now (whole .entry)))) r (now (out .exit)) ⌝ }
 {
     let mut next = words;
-    let n = still_from(&next);
     let mut now = frame;
     let mut at: usize = 0;
     while now < target {
-        let m = step(&mut next, whole, period, n, now, target, out, wet, at);
+        let m = count_on(&mut next, whole, period, now, target, out, at);
         now = m.frame;
         at = m.at;
     }
-    Played {
-        words: next,
-        frame: now,
-        at,
-    }
-}
-
-// What an advance answers: where it is refused, nothing written, the same frame and the same servers.
-pub struct Advance {
-    pub verdict: Verdict,
-    pub written: usize,
-    pub frame: u32,
-    pub words: [u32; 80],
-}
-
-// All frames up to the target, or 9; where the target is not after the present frame, nothing happens.
-pub fn run(
-    words: [u32; 80],
-    whole: &[bool; 256],
-    period: Period,
-    frame: u32,
-    target: u32,
-    out: &mut [u8],
-) -> Advance
-    ensures { λ r. ⌜ Advances (stateOf frame period (serversOf words) (now (whole .entry))) (timeGoes (stateOf frame period (serversOf words) (now (whole .entry))) target) (now (out .entry)) r (now (out .exit)) ⌝ }
-{
-    let counted = play(words, whole, period, frame, target, out, false);
-    if counted.at > out.len() {
-        return Advance {
-            verdict: Verdict::Refused(Refusal::Short),
-            written: 0,
-            frame,
-            words,
-        };
-    }
-    let played = play(words, whole, period, frame, target, out, true);
-    let next = played.words;
-    Advance {
-        verdict: Verdict::Accepted,
-        written: played.at,
-        frame: played.frame,
-        words: next,
-    }
-}
-
-// ---- as many frames as fit
-
-// No frame writes more bytes: 27 to a line, two lines for each heartbeat heard and each timer, 16 senders of so many heartbeats, 16 servers.
-fn most_bytes(loud: u32) -> usize
-    ensures { λ r. ⌜ r ≡ mostBytes loud ⌝ }
-{
-    let beats = (loud / 131072) as usize;
-    16 * (54 * (16 * (beats + 2)) + 162)
-}
-
-// The place after the next frame's lines, which are not written.
-fn count_frame(
-    words: &[u32; 80],
-    whole: &[bool; 256],
-    period: Period,
-    n: usize,
-    loud: u32,
-    before: u32,
-    out: &mut [u8],
-    at: usize,
-) -> usize
-    requires { ⌜ (length (now words) ≡ 80) × ((before < 4294967295) × (Still n (serversOf (now words)) × Loud (serversOf (now words)) loud)) ⌝ }
-    ensures { λ r. ⌜ Out Bool.false (now (out .entry)) at (frameLines (stateOf before period (serversOf (now (words .entry))) (now (whole .entry)))) r (now (out .exit)) ⌝ }
-{
-    let mut copy = *words;
-    play_frame(&mut copy, whole, period, n, loud, before, out, false, at)
-}
-
-// Whether the next frame's lines fit. They are counted only where that is not clear.
-fn frame_fits(
-    words: &[u32; 80],
-    whole: &[bool; 256],
-    period: Period,
-    n: usize,
-    loud: u32,
-    before: u32,
-    out: &mut [u8],
-    at: usize,
-) -> bool
-    requires { ⌜ (length (now words) ≡ 80) × ((at ≤ length (now out)) × ((before < 4294967295) × (Still n (serversOf (now words)) × Loud (serversOf (now words)) loud))) ⌝ }
-    ensures { λ r. ⌜ (r ≡ leb (at + length (frameLines (stateOf before period (serversOf (now (words .entry))) (now (whole .entry))))) (length (now (out .entry)))) × (now (out .exit) ≡ now (out .entry)) ⌝ }
-{
-    if most_bytes(loud) <= out.len() - at {
-        return true;
-    }
-    let after = count_frame(words, whole, period, n, loud, before, out, at);
-    after <= out.len()
+    at
 }
 
 // The frame reached, the place after the lines that led there, and whether the next frame's lines do not fit.
@@ -1411,53 +208,24 @@ fn play_fitting(
     words: &mut [u32; 80],
     whole: &[bool; 256],
     period: Period,
-    n: usize,
-    loud: u32,
     frame: u32,
     out: &mut [u8],
     at: usize,
 ) -> Stretched
-    requires { ⌜ (length (now words) ≡ 80) × ((at ≤ length (now out)) × ((frame < 4294967295) × (Still n (serversOf (now words)) × Loud (serversOf (now words)) loud))) ⌝ }
+    requires { ⌜ (length (now words) ≡ 80) × (frame < 4294967295) ⌝ }
     ensures { λ r. ⌜ (length (now (words .exit)) ≡ 80) × Fares (stateOf frame period (serversOf (now (words .entry))) (now (whole .entry))) (now (out .entry)) at (serversOf (now (words .exit))) r (now (out .exit)) ⌝ }
 {
-    if frame_fits(words, whole, period, n, loud, frame, out, at) {
-        let after = play_frame(words, whole, period, n, loud, frame, out, true, at);
-        Stretched {
-            frame: frame + 1,
-            at: after,
-            full: false,
-        }
-    } else {
+    let fared = frame::play(words, whole, period, frame, out, at);
+    if fared.full {
         Stretched {
             frame,
             at,
             full: true,
         }
-    }
-}
-
-// Some frames more, up to the target, as long as they fit: those in which nothing happens are jumped over.
-fn stretch_on(
-    words: &mut [u32; 80],
-    whole: &[bool; 256],
-    period: Period,
-    n: usize,
-    loud: u32,
-    frame: u32,
-    target: u32,
-    out: &mut [u8],
-    at: usize,
-) -> Stretched
-    requires { ⌜ (length (now words) ≡ 80) × ((at ≤ length (now out)) × ((frame < target) × (Still n (serversOf (now words)) × Loud (serversOf (now words)) loud))) ⌝ }
-    ensures { λ r. ⌜ (length (now (words .exit)) ≡ 80) × Stretches (stateOf frame period (serversOf (now (words .entry))) (now (whole .entry))) target (now (out .entry)) at (serversOf (now (words .exit))) r (now (out .exit)) ⌝ }
-{
-    let start = jump(words, period, n, loud, frame, target);
-    if start < target {
-        play_fitting(words, whole, period, n, loud, start, out, at)
     } else {
         Stretched {
-            frame: start,
-            at,
+            frame: frame + 1,
+            at: fared.at,
             full: false,
         }
     }
@@ -1465,16 +233,15 @@ fn stretch_on(
 
 // ---- a calm group
 
-// The first of the first n places with a primary, or n.
-fn primary_among(words: &[u32; 80], n: usize) -> usize
-    requires { ⌜ n ≤ 16 ⌝ }
-    ensures { λ r. ⌜ (r < n → isPrimary (getD (serversOf (now (words .entry))) r absent .role) ≡ Bool.true) ⌝ }
+// The first place with a primary, or 16.
+fn first_primary(words: &[u32; 80]) -> usize
+    ensures { λ r. ⌜ (r < 16 → isPrimary (getD (serversOf (now (words .entry))) r absent .role) ≡ Bool.true) ⌝ }
 {
     let mut i: usize = 0;
-    while i < n {
-        let s = server_at(words, i);
+    while i < 16 {
+        let s = frame::server(words, i);
         let role = s.role;
-        if is_primary(role) {
+        if frame::is_primary(role) {
             return i;
         }
         i += 1;
@@ -1495,29 +262,28 @@ fn waits(s: Server, link: bool, period: Period, frame: u32, next: u64) -> bool
     ensures { λ r. ⌜ (r ≡ Bool.true → Waits period link frame next s) ⌝ }
 {
     let role = s.role;
-    if is_backup(role) {
+    if frame::is_backup(role) {
         link & sleeps(s.silence, period.silence_limit(), frame, next)
     } else {
-        is_still(s)
+        frame::is_still(s)
     }
 }
 
-// So do all of the first n places but place b, which they hear.
+// So do all but place b, which they hear.
 fn all_wait(
     words: &[u32; 80],
     whole: &[bool; 256],
     period: Period,
-    n: usize,
     b: usize,
     frame: u32,
     next: u64,
 ) -> bool
-    requires { ⌜ (n ≤ 16) × (b < 16) ⌝ }
-    ensures { λ r. ⌜ (r ≡ Bool.true → AllWait (serversOf (now (words .entry))) (now (whole .entry)) period b frame next n) ⌝ }
+    requires { ⌜ b < 16 ⌝ }
+    ensures { λ r. ⌜ (r ≡ Bool.true → AllWait (serversOf (now (words .entry))) (now (whole .entry)) period b frame next 16) ⌝ }
 {
     let mut i: usize = 0;
-    while i < n {
-        let s = server_at(words, i);
+    while i < 16 {
+        let s = frame::server(words, i);
         let wait = waits(s, whole[16 * b + i], period, frame, next);
         if !wait & (i != b) {
             return false;
@@ -1535,30 +301,23 @@ fn next_beat(s: Server, period: Period) -> u64
 }
 
 // The place of the primary that beats next, where nothing else happens before; else 16.
-fn calm(
-    words: &[u32; 80],
-    whole: &[bool; 256],
-    period: Period,
-    n: usize,
-    loud: u32,
-    frame: u32,
-) -> usize
-    requires { ⌜ Still n (serversOf (now words)) × Loud (serversOf (now words)) loud ⌝ }
+fn calm(words: &[u32; 80], whole: &[bool; 256], period: Period, silent: bool, frame: u32) -> usize
+    requires { ⌜ (silent ≡ Bool.true → Loud (serversOf (now words)) 0) ⌝ }
     ensures { λ r. ⌜ (r < 16 → Calm period (now (whole .entry)) (serversOf (now (words .entry))) r frame (getD (serversOf (now (words .entry))) r absent .beat + beatLimit period)) ⌝ }
 {
-    if loud != 0 {
+    if !silent {
         return 16;
     }
-    let b = primary_among(words, n);
-    if n <= b {
+    let b = first_primary(words);
+    if b >= 16 {
         return 16;
     }
-    let s = server_at(words, b);
+    let s = frame::server(words, b);
     let next = next_beat(s, period);
     if (next <= (frame as u64)) | (period.beat_limit() < 2) {
         return 16;
     }
-    if all_wait(words, whole, period, n, b, frame, next) {
+    if all_wait(words, whole, period, b, frame, next) {
         b
     } else {
         16
@@ -1597,63 +356,55 @@ fn settle_at(words: &mut [u32; 80], i: usize, b: usize, last: u32)
     requires { ⌜ (length (now words) ≡ 80) × ((i < 16) × (last < 4294967295)) ⌝ }
     ensures { λ _. ⌜ (length (now (words .exit)) ≡ 80) × (serversOf (now (words .exit)) ≡ set (serversOf (now (words .entry))) i (pulsed b last i (getD (serversOf (now (words .entry))) i absent))) ⌝ }
 {
-    let s = server_at(words, i);
+    let s = frame::server(words, i);
     let role = s.role;
     if i == b {
         words[5 * i + 2] = last;
-    } else if is_backup(role) {
+    } else if frame::is_backup(role) {
         words[5 * i + 1] = last + 1;
     }
 }
 
-// All of the first n places after it.
-fn settle(words: &mut [u32; 80], n: usize, b: usize, last: u32)
-    requires { ⌜ (length (now words) ≡ 80) × ((last < 4294967295) × (Still n (serversOf (now words)) × (b < n))) ⌝ }
+// All places after it.
+fn settle(words: &mut [u32; 80], b: usize, last: u32)
+    requires { ⌜ (length (now words) ≡ 80) × ((last < 4294967295) × (b < 16)) ⌝ }
     ensures { λ _. ⌜ (length (now (words .exit)) ≡ 80) × (serversOf (now (words .exit)) ≡ mapFrom 0 (pulsed b last) (serversOf (now (words .entry)))) ⌝ }
 {
     let mut i: usize = 0;
-    while i < n {
+    while i < 16 {
         settle_at(words, i, b, last);
         i += 1;
     }
 }
 
-// Beats of place b, one a period, as long as they fit; or one step.
+// Beats of place b, one a period, as long as they fit; where there is no room for any line, the next frame, if it fits.
 fn beat_along(
     words: &mut [u32; 80],
     whole: &[bool; 256],
     period: Period,
-    n: usize,
-    loud: u32,
     b: usize,
     frame: u32,
+    start: u32,
     target: u32,
     out: &mut [u8],
     at: usize,
 ) -> Stretched
-    requires { ⌜ (length (now words) ≡ 80) × ((at ≤ length (now out)) × ((frame < target) × ((Still n (serversOf (now words)) × Loud (serversOf (now words)) loud) × Calm period (now whole) (serversOf (now words)) b frame (getD (serversOf (now words)) b absent .beat + beatLimit period)))) ⌝ }
+    requires { ⌜ (length (now words) ≡ 80) × ((at ≤ length (now out)) × (((frame < target) × (start < target)) × (Jumps period (serversOf (now words)) frame target start × Calm period (now whole) (serversOf (now words)) b frame (getD (serversOf (now words)) b absent .beat + beatLimit period)))) ⌝ }
     ensures { λ r. ⌜ (length (now (words .exit)) ≡ 80) × Stretches (stateOf frame period (serversOf (now (words .entry))) (now (whole .entry))) target (now (out .entry)) at (serversOf (now (words .exit))) r (now (out .exit)) ⌝ }
 {
-    let s = server_at(words, b);
+    let s = frame::server(words, b);
     let first = next_beat(s, period);
-    if (target as u64) < first {
-        return Stretched {
-            frame: target,
-            at,
-            full: false,
-        };
-    }
     let m = beat_on(s.identity, period, first, target, out, at);
     if m.next > first {
         let last = (m.next - (period.beat_limit() as u64)) as u32;
-        settle(words, n, b, last);
+        settle(words, b, last);
         Stretched {
             frame: last + 1,
             at: m.at,
             full: false,
         }
     } else {
-        stretch_on(words, whole, period, n, loud, frame, target, out, at)
+        play_fitting(words, whole, period, start, out, at)
     }
 }
 
@@ -1662,17 +413,16 @@ fn stretch(
     words: &mut [u32; 80],
     whole: &[bool; 256],
     period: Period,
-    n: usize,
     frame: u32,
     target: u32,
     out: &mut [u8],
     at: usize,
 ) -> Stretched
-    requires { ⌜ (length (now words) ≡ 80) × ((at ≤ length (now out)) × ((frame < target) × Still n (serversOf (now words)))) ⌝ }
+    requires { ⌜ (length (now words) ≡ 80) × ((at ≤ length (now out)) × (frame < target)) ⌝ }
     ensures { λ r. ⌜ (length (now (words .exit)) ≡ 80) × Stretches (stateOf frame period (serversOf (now (words .entry))) (now (whole .entry))) target (now (out .entry)) at (serversOf (now (words .exit))) r (now (out .exit)) ⌝ }
 {
-    let loud = loudest(words, n);
-    let start = jump(words, period, n, loud, frame, target);
+    let silent = nobody_sent(words);
+    let start = jump(words, period, silent, frame, target);
     if start >= target {
         return Stretched {
             frame: start,
@@ -1680,40 +430,74 @@ fn stretch(
             full: false,
         };
     }
-    let b = calm(words, whole, period, n, loud, frame);
+    let b = calm(words, whole, period, silent, frame);
     if b < 16 {
-        beat_along(words, whole, period, n, loud, b, frame, target, out, at)
+        beat_along(words, whole, period, b, frame, start, target, out, at)
     } else {
-        play_fitting(words, whole, period, n, loud, start, out, at)
+        play_fitting(words, whole, period, start, out, at)
     }
 }
 
-// As many frames towards the target as fit.
+// As many frames towards the target as fit. `held` is what the numbers are.
 fn play_within(
+    words: &mut [u32; 80],
+    held: [u32; 80],
+    whole: &[bool; 256],
+    period: Period,
+    frame: u32,
+    target: u32,
+    out: &mut [u8],
+) -> Reached
+    requires { ⌜ now words ≡ held ⌝ }
+    ensures { λ r. ⌜ MovesWithin (stateOf frame period (serversOf (now (words .entry))) (now (whole .entry))) target (now (out .entry)) (record { servers = serversOf (now (words .exit)); frame = r .frame; at = r .at }) (now (out .exit)) ⌝ }
+{
+    let mut now = frame;
+    let mut at: usize = 0;
+    let mut full = false;
+    while (now < target) & !full {
+        let m = stretch(words, whole, period, now, target, out, at);
+        now = m.frame;
+        at = m.at;
+        full = m.full;
+    }
+    Reached { frame: now, at }
+}
+
+// What an advance answers: where it is refused, nothing written, the same frame and the same servers.
+pub struct Advance {
+    pub verdict: Verdict,
+    pub written: usize,
+    pub frame: u32,
+    pub words: [u32; 80],
+}
+
+// All frames up to the target, or 9; where the target is not after the present frame, nothing happens. They are counted first, so that 9 comes before any byte.
+pub fn run(
     words: [u32; 80],
     whole: &[bool; 256],
     period: Period,
     frame: u32,
     target: u32,
     out: &mut [u8],
-) -> Played
-    ensures { λ r. ⌜ MovesWithin (stateOf frame period (serversOf words) (now (whole .entry))) target (now (out .entry)) r (now (out .exit)) ⌝ }
+) -> Advance
+    ensures { λ r. ⌜ Advances (stateOf frame period (serversOf words) (now (whole .entry))) (timeGoes (stateOf frame period (serversOf words) (now (whole .entry))) target) (now (out .entry)) r (now (out .exit)) ⌝ }
 {
-    let mut next = words;
-    let n = still_from(&next);
-    let mut now = frame;
-    let mut at: usize = 0;
-    let mut full = false;
-    while (now < target) & !full {
-        let m = stretch(&mut next, whole, period, n, now, target, out, at);
-        now = m.frame;
-        at = m.at;
-        full = m.full;
+    let counted = count_all(words, whole, period, frame, target, out);
+    if counted > out.len() {
+        return Advance {
+            verdict: Verdict::Refused(Refusal::Short),
+            written: 0,
+            frame,
+            words,
+        };
     }
-    Played {
+    let mut next = words;
+    let played = play_within(&mut next, words, whole, period, frame, target, out);
+    Advance {
+        verdict: Verdict::Accepted,
+        written: played.at,
+        frame: played.frame,
         words: next,
-        frame: now,
-        at,
     }
 }
 
@@ -1724,34 +508,28 @@ pub struct Ran {
     pub frame: u32,
 }
 
-// No timer of the server is due after the present frame and up to the target.
+// No timer that the server's role has is due after the present frame and up to the target. No branch hangs on the role: roles follow no pattern.
 fn rests(s: Server, period: Period, frame: u32, target: u32) -> bool
     ensures { λ r. ⌜ (r ≡ Bool.true → Rests frame period s (target + 1)) ⌝ }
 {
     let next = target as u64;
     let role = s.role;
-    match role {
-        Role::Down => true,
-        Role::Idle => true,
-        Role::Sync => true,
-        Role::Backup => sleeps(s.silence, period.silence_limit(), frame, next),
-        Role::Prospect => {
-            sleeps(s.beat, period.beat_limit(), frame, next)
-                & sleeps(s.prospect, period.prospect_limit(), frame, next)
-        }
-        Role::Primary => sleeps(s.beat, period.beat_limit(), frame, next),
-    }
+    let n = frame::role_number(role);
+    let silence = sleeps(s.silence, period.silence_limit(), frame, next);
+    let beat = sleeps(s.beat, period.beat_limit(), frame, next);
+    let prospect = sleeps(s.prospect, period.prospect_limit(), frame, next);
+    ((n != 3) | silence) & (((n < 4) | beat) & ((n != 4) | prospect))
 }
 
-// So is no timer of any.
-fn all_rest(words: &[u32; 80], period: Period, n: usize, frame: u32, target: u32) -> bool
-    requires { ⌜ Still n (serversOf (now words)) ⌝ }
-    ensures { λ r. ⌜ (r ≡ Bool.true → AllRest frame period (serversOf (now (words .entry))) (target + 1)) ⌝ }
+// Nobody sent, and no timer of anybody is due after the present frame and up to the target.
+fn all_quiet(words: &[u32; 80], period: Period, frame: u32, target: u32) -> bool
+    ensures { λ r. ⌜ (r ≡ Bool.true → Loud (serversOf (now (words .entry))) 0 × AllRest frame period (serversOf (now (words .entry))) (target + 1)) ⌝ }
 {
     let mut i: usize = 0;
-    while i < n {
-        let s = server_at(words, i);
-        if !rests(s, period, frame, target) {
+    while i < 16 {
+        let s = frame::server(words, i);
+        let quiet = sent_none(words, i) & rests(s, period, frame, target);
+        if !quiet {
             return false;
         }
         i += 1;
@@ -1760,17 +538,14 @@ fn all_rest(words: &[u32; 80], period: Period, n: usize, frame: u32, target: u32
 }
 
 // Whether nothing happens up to the target, which is later.
-fn is_quiet(words: &[u32; 80], period: Period, frame: u32, target: u32) -> bool
+fn nothing_until(words: &[u32; 80], period: Period, frame: u32, target: u32) -> bool
     ensures { λ r. ⌜ (r ≡ Bool.true → (frame < target) × Jumps period (serversOf (now (words .entry))) frame target target) ⌝ }
 {
-    if frame >= target {
-        return false;
+    if frame < target {
+        all_quiet(words, period, frame, target)
+    } else {
+        false
     }
-    let n = still_from(words);
-    if loudest(words, n) != 0 {
-        return false;
-    }
-    all_rest(words, period, n, frame, target)
 }
 
 // As many single advances towards the target as fit, in place; 9 where there are some to make and not one fits.
@@ -1784,16 +559,15 @@ pub fn run_within(
 ) -> Ran
     ensures { λ r. ⌜ AdvancesIn (stateOf frame period (serversOf (now (words .entry))) (now (whole .entry))) (withinGoes (stateOf frame period (serversOf (now (words .entry))) (now (whole .entry))) target (length (now (out .entry)))) (now (out .entry)) r (now (words .exit)) (now (out .exit)) ⌝ }
 {
-    if is_quiet(words, period, frame, target) {
+    if nothing_until(words, period, frame, target) {
         return Ran {
             verdict: Verdict::Accepted,
             written: 0,
             frame: target,
         };
     }
-    let played = play_within(*words, whole, period, frame, target, out);
-    let next = played.words;
-    *words = next;
+    let held = *words;
+    let played = play_within(words, held, whole, period, frame, target, out);
     if (frame < target) & (played.frame == frame) {
         return Ran {
             verdict: Verdict::Refused(Refusal::Short),

@@ -21,14 +21,14 @@ use Rattle.group.specs.Calls.{Call, verb, advance, advanceTo, outcomeOf, sliceO
 use Rattle.group.proofs.Laws.{every-call-keeps-the-table}
 use Rattle.group.proofs.Made.{neat-table}
 use Rattle.traces.specs.Settling.{Settled}
+use Rattle.reached.proofs.Sound.{Sound, AllWhole}
+use Rattle.reached.proofs.Run.{runs, traceOf, frame-run, rank-run}
+use Rattle.reached.proofs.Instance.{channel-settles}
+use Rattle.reached.proofs.Made.{sound-fresh}
+use Rattle.reached.proofs.Reached.{handed, sound-after}
+use Rattle.reached.proofs.Links.{links-after}
 use Rattle.settling.specs.Demand.{refusedIfVerb, verbsRefused, settlingTime, Led, Settles, DemandThree}
 use Rattle.settling.specs.Whole.{LinksAreAsCut}
-use Rattle.settling.proofs.Sound.{Sound, AllWhole}
-use Rattle.settling.proofs.Run.{runs, traceOf, frame-run, rank-run}
-use Rattle.settling.proofs.Instance.{channel-settles}
-use Rattle.settling.proofs.Made.{sound-fresh}
-use Rattle.settling.proofs.Reached.{handed, sound-after}
-use Rattle.settling.proofs.Links.{links-after}
 
 -- ---- calls that only count frames
 

@@ -1,4 +1,4 @@
--- The lists of calls of specs/Examples.antt, computed. Assumes nothing.
+-- The examples of specs/Examples.antt: what the crate reached computed of their lists, and no link is cut. Assumes nothing.
 use mathlib.Core.Bool.{Bool, true, false, not, _&&_}
 use mathlib.Core.Path.{_≡_, refl, sym, ap, _∙_}
 use mathlib.Core.List.{List, [], _∷_}
@@ -9,25 +9,14 @@ use Rattle.lists.specs.Choice.{choose}
 use Rattle.lists.specs.Lists.{same}
 use Rattle.lists.proofs.Cases.{tested, other, fst-true, snd-true, on, same-choice}
 use Rattle.lists.proofs.SameLoop.{same-equal}
-use Rattle.text.specs.Digits.{digits}
-use Rattle.timecode.specs.Label.{label}
 use Rattle.heartbeat.specs.declared.Rank.{Rank}
-use Rattle.heartbeat.specs.Rank.{higher}
 use Rattle.server.specs.declared.Verb.the-variants.{Start, Ready, Unready, Pass, Crash, Restart, Cut, Mend}
 use Rattle.server.specs.Period.{takePeriod}
-use Rattle.server.specs.Server.{oneMore, sentBy, sentAny, after}
-use Rattle.server.specs.Hearing.{forThis, backupHears, prospectHears, primaryHears}
-use Rattle.server.specs.Timers.{afterSilent, afterBeating, afterRising}
-use Rattle.server.specs.Verbs.{from, enters, entering, verbHappens, verbAnswer}
 use Rattle.group.specs.declared.State.{State}
-use Rattle.group.specs.Outcome.{numberIn, channelIn}
 use Rattle.group.specs.Table.{placeIn, standsBefore, enter, addRefusal, added, withServers, tableOf, freshRefusal}
-use Rattle.lines.specs.Lines.{line, linesOf}
-use Rattle.group.specs.Hearing.{hearsFrom, comes, nextAmong, nextSender, sendersAfter, sentByAll, inbox}
-use Rattle.group.specs.Frame.{heardAll, heardLines, timedLines, hearing, turned, turnLines, turnsLines, advanced, frameLines}
-use Rattle.group.specs.Verbs.{namesNobody, known, stateRefusal, verbRefusal, did}
-use Rattle.group.specs.Advance.{advancedBy, linesBy, timeRefusal}
+use Rattle.group.specs.Frame.{advanced}
 use Rattle.group.specs.Calls.{Call, verb, advance, advanceTo, callNumber, callChannel, channelAfter}
+use Rattle.reached.proofs.Worked.{says, computed}
 use Rattle.settling.specs.Links.{cutByCall, cutAfter, NoLinkCut}
 use Rattle.settling.specs.Examples.{threeHighest, twoHighest, rolesOf, lent, allReady, lateReady, lowerBeats, slowest, passing, twoPrimaries, opened, Example, Examples}
 
@@ -77,17 +66,10 @@ ready : {a b : ℕ} {ks : List Call} → Untouched a b ks → Untouched a b (all
 unfolding touches
 ready u = more refl (more refl (more refl (more refl (more refl (more refl u)))))
 
--- ---- what is said of the lists, as tests
-
-says : List Rank → List Call → List ℕ → List ℕ → List ℕ → Bool
-says rs ks ended next settled =
-    eqb (channelAfter (opened rs) ks .frame) 12
-    && (same (rolesOf (channelAfter (opened rs) ks)) ended
-    && (same (rolesOf (advanced (channelAfter (opened rs) ks))) next
-    && same (rolesOf (channelAfter (channelAfter (opened rs) ks) (advanceTo 26 lent ∷ []))) settled))
+-- ---- the lists
 
 example :
-    (rs : List Rank) (ks : List Call) (ended next settled : List ℕ) → freshRefusal (tableOf rs) 3 ≡ 0 → says rs ks ended next settled ≡ true →
+    (rs : List Rank) (ks : List Call) (ended next settled : List ℕ) → freshRefusal (tableOf rs) 3 ≡ 0 → says (channelAfter (opened rs) ks) ended next settled ≡ true →
     NoLinkCut (opened rs) ks → Example rs ks ended next settled
 unfolding says
 example rs ks ended next settled taken e u =
@@ -101,18 +83,6 @@ example rs ks ended next settled taken e u =
       after = same-equal _ _ (fst-true _ _ g);
       later = same-equal _ _ (snd-true (same (rolesOf (advanced (channelAfter (opened rs) ks))) next) _ g);
     }
-
--- all of them, the one frame sooner, and the one link that two of them cut and mend
-computed :
-    (says threeHighest lowerBeats (5 ∷ 3 ∷ 3 ∷ []) (5 ∷ 3 ∷ 3 ∷ []) (5 ∷ 3 ∷ 3 ∷ [])
-    && (says threeHighest slowest (3 ∷ 5 ∷ 3 ∷ []) (3 ∷ 3 ∷ 3 ∷ []) (3 ∷ 3 ∷ 5 ∷ [])
-    && (says twoHighest lateReady (3 ∷ 3 ∷ 3 ∷ []) (3 ∷ 3 ∷ 3 ∷ []) (3 ∷ 5 ∷ 3 ∷ [])
-    && (says threeHighest passing (3 ∷ 3 ∷ 3 ∷ []) (4 ∷ 3 ∷ 3 ∷ []) (5 ∷ 3 ∷ 3 ∷ [])
-    && (says threeHighest twoPrimaries (3 ∷ 5 ∷ 5 ∷ []) (3 ∷ 3 ∷ 5 ∷ []) (3 ∷ 3 ∷ 5 ∷ [])
-    && (same (rolesOf (channelAfter (channelAfter (opened threeHighest) slowest) (advanceTo 25 lent ∷ []))) (3 ∷ 3 ∷ 4 ∷ [])
-    && (not (cutAfter 3 2 (opened threeHighest) slowest false) && not (cutAfter 3 2 (opened threeHighest) twoPrimaries false)))))))) ≡ true
-unfolding says choose same digits label higher oneMore sentBy sentAny after forThis backupHears prospectHears primaryHears afterSilent afterBeating afterRising from enters entering verbHappens verbAnswer numberIn channelIn placeIn standsBefore enter addRefusal added line linesOf hearsFrom comes nextAmong nextSender sendersAfter sentByAll inbox heardAll heardLines timedLines hearing turned turnLines turnsLines advanced frameLines namesNobody known stateRefusal verbRefusal did advancedBy linesBy timeRefusal callChannel callNumber channelAfter withServers cutAfter cutByCall
-computed = refl
 
 -- a list that cuts and mends the link from 3 to 2, and no other
 mended :
@@ -137,11 +107,11 @@ taken-two = refl
 pub examples : Examples
 unfolding touches
 examples =
-    let c1 = snd-true (says threeHighest lowerBeats (5 ∷ 3 ∷ 3 ∷ []) (5 ∷ 3 ∷ 3 ∷ []) (5 ∷ 3 ∷ 3 ∷ [])) _ computed in
-    let c2 = snd-true (says threeHighest slowest (3 ∷ 5 ∷ 3 ∷ []) (3 ∷ 3 ∷ 3 ∷ []) (3 ∷ 3 ∷ 5 ∷ [])) _ c1 in
-    let c3 = snd-true (says twoHighest lateReady (3 ∷ 3 ∷ 3 ∷ []) (3 ∷ 3 ∷ 3 ∷ []) (3 ∷ 5 ∷ 3 ∷ [])) _ c2 in
-    let c4 = snd-true (says threeHighest passing (3 ∷ 3 ∷ 3 ∷ []) (4 ∷ 3 ∷ 3 ∷ []) (5 ∷ 3 ∷ 3 ∷ [])) _ c3 in
-    let c5 = snd-true (says threeHighest twoPrimaries (3 ∷ 5 ∷ 5 ∷ []) (3 ∷ 3 ∷ 5 ∷ []) (3 ∷ 3 ∷ 5 ∷ [])) _ c4 in
+    let c1 = snd-true (says (channelAfter (opened threeHighest) lowerBeats) (5 ∷ 3 ∷ 3 ∷ []) (5 ∷ 3 ∷ 3 ∷ []) (5 ∷ 3 ∷ 3 ∷ [])) _ computed in
+    let c2 = snd-true (says (channelAfter (opened threeHighest) slowest) (3 ∷ 5 ∷ 3 ∷ []) (3 ∷ 3 ∷ 3 ∷ []) (3 ∷ 3 ∷ 5 ∷ [])) _ c1 in
+    let c3 = snd-true (says (channelAfter (opened twoHighest) lateReady) (3 ∷ 3 ∷ 3 ∷ []) (3 ∷ 3 ∷ 3 ∷ []) (3 ∷ 5 ∷ 3 ∷ [])) _ c2 in
+    let c4 = snd-true (says (channelAfter (opened threeHighest) passing) (3 ∷ 3 ∷ 3 ∷ []) (4 ∷ 3 ∷ 3 ∷ []) (5 ∷ 3 ∷ 3 ∷ [])) _ c3 in
+    let c5 = snd-true (says (channelAfter (opened threeHighest) twoPrimaries) (3 ∷ 5 ∷ 5 ∷ []) (3 ∷ 3 ∷ 5 ∷ []) (3 ∷ 3 ∷ 5 ∷ [])) _ c4 in
     let c6 = snd-true (same (rolesOf (channelAfter (channelAfter (opened threeHighest) slowest) (advanceTo 25 lent ∷ []))) (3 ∷ 3 ∷ 4 ∷ [])) _ c5 in
     record {
       lower-beats = example threeHighest lowerBeats _ _ _ taken-three (fst-true _ _ computed)

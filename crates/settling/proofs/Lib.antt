@@ -1,16 +1,4 @@
-pub mod Heard
-pub mod Young
-pub mod Ticks
-pub mod Kept
-pub mod Sound
-pub mod Run
-pub mod Quiet
-pub mod Instance
-pub mod Reached
-pub mod Made
-pub mod Links
 pub mod Demand
 pub mod Examples
-pub mod Few
 pub mod Ordered
 pub mod Sending

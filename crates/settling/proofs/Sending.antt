@@ -38,14 +38,14 @@ use Rattle.group.proofs.Laws.{rank-heard}
 use Rattle.group.proofs.Made.{neat-table}
 use Rattle.traces.specs.Trace.{isActive, isBeating}
 use Rattle.traces.proofs.Ways as ways
-use Rattle.settling.specs.Sending.{Appends, TimersAppend, AppendsAll, SentInOrder, SendersAlwaysDiffer}
 use Rattle.group.proofs.Inbox.{Falls}
-use Rattle.settling.proofs.Heard.{rest-all}
-use Rattle.settling.proofs.Kept.{RevealerBeats, unrevealed, revealer-heard}
-use Rattle.settling.proofs.Sound.{Sound, hears-falls, hears-apart, senders-differ}
-use Rattle.settling.proofs.Made.{sound-fresh}
-use Rattle.settling.proofs.Reached.{sound-after}
-use Rattle.settling.proofs.Few.{marks, marked, marked-append, few-marked}
+use Rattle.reached.proofs.Heard.{rest-all}
+use Rattle.reached.proofs.Kept.{RevealerBeats, unrevealed, revealer-heard}
+use Rattle.reached.proofs.Sound.{Sound, hears-falls, hears-apart, senders-differ}
+use Rattle.reached.proofs.Made.{sound-fresh}
+use Rattle.reached.proofs.Reached.{sound-after}
+use Rattle.reached.proofs.Few.{marks, marked, marked-append, few-marked}
+use Rattle.settling.specs.Sending.{Appends, TimersAppend, AppendsAll, SentInOrder, SendersAlwaysDiffer}
 use Rattle.settling.proofs.Ordered.{beat-appends, timer-appends, reveal-appends, pass-appends, nothing-appends, backup-appends, lower-appends, primary-appends, sync-appends, idle-appends, down-appends}
 
 -- ---- while hearing

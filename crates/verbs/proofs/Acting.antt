@@ -31,8 +31,8 @@ use Rattle.server.specs.Verbs.{paired, verbHappens, verbAnswer}
 use Rattle.server.specs.Words.{said}
 use Rattle.server.proofs.Verb.{the-type}
 use Rattle.lines.specs.Lines.{linesOf, Says}
-use Rattle.frames.proofs.Writing.{says-out}
-use Rattle.frames.proofs.Telling.{within, beyond}
+use Rattle.frame.proofs.Writing.{says-out}
+use Rattle.frame.proofs.Telling.{within, beyond}
 use Rattle.group.specs.declared.State.{State}
 use Rattle.group.specs.Outcome.{Outcome, numberIn, channelIn}
 use Rattle.group.specs.Answers.{Gives}

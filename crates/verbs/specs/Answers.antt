@@ -7,8 +7,8 @@ use Rattle.server.specs.declared.Period.{Period}
 use Rattle.server.specs.declared.Verb.{Verb}
 use Rattle.group.specs.Answers.{Gives}
 use Rattle.group.specs.Verbs.{known, verbOutcome}
-use Rattle.frames.specs.Words.{serversOf}
-use Rattle.frames.specs.Answers.{stateOf}
+use Rattle.frame.specs.Words.{serversOf}
+use Rattle.frame.specs.Answers.{stateOf}
 use Rattle.verbs.specs.declared.Acted.{Acted}
 
 -- whether the servers with the numbers w have the identities of the verb v, and these differ, whatever the frame, the period and the links

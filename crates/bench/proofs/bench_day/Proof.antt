@@ -1,7 +1,7 @@
 use mathlib.Core.List.{List}
 use mathlib.Core.Path.{ap, _∙_}
 use Rattle.server.specs.declared.Server.{Server}
-use Rattle.frames.specs.Answers.{stateOf}
+use Rattle.frame.specs.Answers.{stateOf}
 use Rattle.bench.proofs.Running.{day-ends}
 use borrow.Author.Needs.{needs}
 use Rattle.bench.proofs.bench_day.Statement.{statement}

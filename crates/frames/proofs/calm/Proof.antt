@@ -1,4 +1,4 @@
-use mathlib.Core.Path.{_≡_, _∙_, sym, ap, subst}
+use mathlib.Core.Path.{_≡_, _∙_, ap, subst}
 use Prim.Native.Nat.{ℕ, _+_, _<_}
 use native.Mathlib.Omega.{arith}
 use borrow.Author.Tests.{leb-false, ltb-false}
@@ -9,7 +9,8 @@ use Rattle.server.specs.declared.Server.{Server}
 use Rattle.server.specs.Server.{absent}
 use Rattle.server.specs.Period.{beatLimit}
 use Rattle.lists.proofs.Cases.{or-false}
-use Rattle.frames.specs.Words.{serversOf}
+use Rattle.frame.specs.Words.{serversOf}
+use Rattle.frame.proofs.Words.{not-some}
 use Rattle.frames.specs.Steps.{AllWait}
 use Rattle.frames.proofs.Beating.{calm-is}
 use borrow.Author.Needs.{needs}
@@ -23,13 +24,16 @@ returns-4 : tie.Need-returns-4
 returns-4 c h =
     let a = c .before .before .before .before .before .before .before .before .before .args in
     let l = serversOf (a .words .now) in
-    let b = c .before .before .before .before .before .before .before .primary-among .result in
-    let s : c .before .before .before .before .before .server-at .result ≡ getD l b absent = c .before .before .before .before .before .server-at .ensures in
-    let next : c .before .before .before .before .next-beat .result ≡ getD l b absent .beat + beatLimit (a .period) = c .before .before .before .before .next-beat .ensures ∙ ap (λ (x : Server). x .beat + beatLimit (a .period)) s in
-    let then = ahead-there (c .before .before .before .before .next-beat .result) (a .frame) (c .before .before .before .beat-limit .result) (c .before .before .if3 .left) in
-    calm-is (a .period) (a .whole .now) l b (a .frame) (a .n) (a .loud) (c .before .before .before .before .before .before .before .before .before .pre .0) (c .before .before .before .before .before .before .before .before .before .pre .1) (c .before .before .before .before .before .before .before .before .if1 .left) (c .before .before .before .before .before .before .if2 .left) (c .before .before .before .before .before .before .before .primary-among .ensures (c .before .before .before .before .before .before .if2 .left))
-    (subst (λ (n : ℕ). a .frame < n) next (then .0)) (subst (λ (n : ℕ). 1 < n) (c .before .before .before .beat-limit .ensures) (then .1))
-    (subst (λ (n : ℕ). AllWait l (a .whole .now) (a .period) b (a .frame) n (a .n)) next (c .before .all-wait .ensures (c .if4 .taken)))
+    let first = c .before .before .before .before .before .before .before .first-primary in
+    let b = first .result in
+    let beat = c .before .before .before .before .next-beat in
+    let limit = c .before .before .before .beat-limit in
+    let place = c .before .before .before .before .before .before .if2 .left in
+    let next : beat .result ≡ getD l b absent .beat + beatLimit (a .period) = beat .ensures ∙ ap (λ (x : Server). x .beat + beatLimit (a .period)) (c .before .before .before .before .before .server .ensures) in
+    let then = ahead-there (beat .result) (a .frame) (limit .result) (c .before .before .if3 .left) in
+    calm-is (a .period) (a .whole .now) l b (a .frame) (c .before .before .before .before .before .before .before .before .before .pre (not-some _ (c .before .before .before .before .before .before .before .before .if1 .left))) place (first .ensures place)
+    (subst (λ (n : ℕ). a .frame < n) next (then .0)) (subst (λ (n : ℕ). 1 < n) (limit .ensures) (then .1))
+    (subst (λ (n : ℕ). AllWait l (a .whole .now) (a .period) b (a .frame) n 16) next (c .before .all-wait .ensures (c .if4 .taken)))
 
 pub calm-spec : {M : Type 1} → statement M
-calm-spec = tie.close (tie.spec (λ c h. absurd (omega arith)) (λ c κs. c .before .pre .0 .few) (λ c h. absurd (omega arith)) (λ c κs. omega (arith, c .if2 .left, c .before .before .before .pre .0 .few)) (λ c κs. search needs) (λ c κs. search needs) (λ c h. absurd (omega arith)) (λ c κs. (c .before .before .before .before .before .before .before .pre .0 .few, omega (arith, c .before .before .before .before .if2 .left, c .before .before .before .before .before .before .before .pre .0 .few))) returns-4 (λ c h. absurd (omega arith)))
+calm-spec = tie.close (tie.spec (λ c h. absurd (omega arith)) (λ c κs. search needs) (λ c h. absurd (omega arith)) (λ c κs. search needs) (λ c κs. search needs) (λ c κs. search needs) (λ c h. absurd (omega arith)) (λ c κs. c .before .before .before .before .if2 .left) returns-4 (λ c h. absurd (omega arith)))

@@ -1,5 +1,5 @@
 use native.Mathlib.Omega.{arith}
-use Rattle.frames.proofs.Quiet.{due-before, due-from}
+use Rattle.frame.proofs.Quiet.{due-before, due-from}
 use borrow.Author.Needs.{needs}
 use Rattle.frames.proofs.due.Statement.{statement}
 use Rattle.frames.proofs.due.Tie as tie

@@ -1,24 +1,31 @@
-use mathlib.Core.Path.{refl}
+use mathlib.Core.Path.{refl, ap}
+use native.Mathlib.Omega.{arith}
+use lib.ListN.{length}
 use Rattle.group.specs.declared.State.{State}
 use Rattle.group.specs.Advance.{timeGoes}
-use Rattle.frames.specs.Words.{serversOf}
-use Rattle.frames.specs.Answers.{stateOf}
-use Rattle.frames.proofs.Telling.{too-short, told-all}
+use Rattle.frame.specs.Words.{serversOf}
+use Rattle.frame.specs.Answers.{stateOf}
+use Rattle.frame.proofs.Telling.{within, too-short, told-all}
+use Rattle.frames.proofs.Fitting.{all-within}
 use borrow.Author.Needs.{needs}
 use Rattle.frames.proofs.run.Statement.{statement}
 use Rattle.frames.proofs.run.Tie as tie
 
 returns : tie.Need-returns
 returns c =
-    let a = c .before .before .before .before .before .before .before .args in
+    let a = c .before .before .before .before .before .before .args in
     let s : State = stateOf (a .frame) (a .period) (serversOf (a .words)) (a .whole .now) in
-    too-short s (timeGoes s (a .target)) (a .out .now) refl (c .before .before .before .before .play .ensures .out) (c .if1 .taken)
+    too-short s (timeGoes s (a .target)) (a .out .now) refl (c .before .before .before .count-all .ensures) (c .if1 .taken)
 
 returns-2 : tie.Need-returns-2
 returns-2 c =
-    let a = c .before .before .before .before .before .before .before .before .before .before .before .before .args in
+    let a = c .before .before .before .before .before .before .before .before .before .before .before .args in
     let s : State = stateOf (a .frame) (a .period) (serversOf (a .words)) (a .whole .now) in
-    told-all s (timeGoes s (a .target)) (a .out .now) refl (c .before .before .before .before .before .before .before .before .before .play .ensures .out) (c .before .before .before .before .before .if1 .left) (c .before .before .before .play2 .ensures .out) (c .before .before .before .play2 .ensures .channel)
+    let counted = c .before .before .before .before .before .before .before .before .count-all in
+    let same = counted .ensures .dry refl in
+    let fit = within (counted .ensures) (omega (arith, c .before .before .before .before .before .if1 .left, ap length same)) in
+    let all = all-within s (a .target) (c .before .before .play-within .ensures) (omega (arith, fit .0, ap length same)) in
+    told-all s (timeGoes s (a .target)) (a .out .now) refl (counted .ensures) (c .before .before .before .before .before .if1 .left) (all .1) (all .0)
 
 pub run-spec : {M : Type 1} → statement M
-run-spec = tie.close (tie.spec (λ c κs. search needs) (λ c. search needs) returns (λ c κs. search needs) (λ c. search needs) returns-2)
+run-spec = tie.close (tie.spec (λ c κs. search needs) (λ c. search needs) returns (λ c κs. refl) (λ c. search needs) returns-2)

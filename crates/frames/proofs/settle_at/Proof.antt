@@ -8,9 +8,10 @@ use lib.Seq.{set-getD}
 use Rattle.lists.proofs.Cases.{chosen, other}
 use Rattle.server.specs.declared.Server.{Server}
 use Rattle.server.specs.Server.{absent}
-use Rattle.frames.specs.Words.{serversOf}
-use Rattle.frames.specs.Steps.{isBackup, pulsed}
-use Rattle.frames.proofs.Words.{silence-is, beat-is}
+use Rattle.frame.specs.Words.{serversOf}
+use Rattle.frame.specs.Answers.{isBackup}
+use Rattle.frames.specs.Steps.{pulsed}
+use Rattle.frame.proofs.Words.{silence-is, beat-is}
 use borrow.Author.Needs.{needs}
 use Rattle.frames.proofs.settle_at.Statement.{statement}
 use Rattle.frames.proofs.settle_at.Tie as tie
@@ -29,7 +30,7 @@ returns-2 c =
     let a = c .before .before .before .before .before .args in
     let p = c .before .before .before .before .before .pre in
     let s = getD (serversOf (a .words .now)) (a .i) absent in
-    let is : isBackup (s .role) ≡ Bool.true = ap (λ (x : Server). isBackup (x .role)) (sym (c .before .before .before .server-at .ensures)) ∙ sym (c .before .is-backup .ensures) ∙ c .if2 .taken in (
+    let is : isBackup (s .role) ≡ Bool.true = ap (λ (x : Server). isBackup (x .role)) (sym (c .before .before .before .server .ensures)) ∙ sym (c .before .is-backup .ensures) ∙ c .if2 .taken in (
       length-set (a .words .now) (5 * a .i + 1) (a .last + 1) ∙ p .0,
       silence-is (a .words .now) (a .i) (a .last + 1) (p .0) (p .1 .0) ∙ ap (set (serversOf (a .words .now)) (a .i)) (sym (other _ (ne-eqb (a .i) (a .b) (c .before .before .if1 .left)) ∙ chosen _ is)),
     )
@@ -39,8 +40,8 @@ returns-3 c =
     let a = c .before .before .before .before .before .args in
     let p = c .before .before .before .before .before .pre in
     let s = getD (serversOf (a .words .now)) (a .i) absent in
-    let is : isBackup (s .role) ≡ Bool.false = ap (λ (x : Server). isBackup (x .role)) (sym (c .before .before .before .server-at .ensures)) ∙ sym (c .before .is-backup .ensures) ∙ c .if2 .left in
+    let is : isBackup (s .role) ≡ Bool.false = ap (λ (x : Server). isBackup (x .role)) (sym (c .before .before .before .server .ensures)) ∙ sym (c .before .is-backup .ensures) ∙ c .if2 .left in
     (p .0, sym (ap (set (serversOf (a .words .now)) (a .i)) (other _ (ne-eqb (a .i) (a .b) (c .before .before .if1 .left)) ∙ other _ is) ∙ set-getD (serversOf (a .words .now)) (a .i) absent))
 
 pub settle-at-spec : {M : Type 1} → statement M
-settle-at-spec = tie.close (tie.spec (λ c κs. c .before .pre .1 .0) (λ c. omega (arith, c .before .before .before .pre .1 .0)) (λ c. omega (arith, c .before .before .before .pre .1 .0)) (λ c. omega (arith, c .before .before .before .pre .1 .0)) (λ c. omega (arith, c .before .before .before .pre .1 .0, c .before .before .before .pre .0)) (λ c κs. search needs) (λ c. omega (arith, c .before .before .before .before .before .pre .1 .1)) (λ c. omega (arith, c .before .before .before .before .before .pre .1 .0)) (λ c. omega (arith, c .before .before .before .before .before .pre .1 .0)) (λ c. omega (arith, c .before .before .before .before .before .pre .1 .0)) (λ c. omega (arith, c .before .before .before .before .before .pre .1 .0, c .before .before .before .before .before .pre .0)) returns returns-2 returns-3)
+settle-at-spec = tie.close (tie.spec (λ c κs. search needs) (λ c. omega (arith, c .before .before .before .pre .1 .0)) (λ c. omega (arith, c .before .before .before .pre .1 .0)) (λ c. omega (arith, c .before .before .before .pre .1 .0)) (λ c. omega (arith, c .before .before .before .pre .1 .0, c .before .before .before .pre .0)) (λ c κs. search needs) (λ c. omega (arith, c .before .before .before .before .before .pre .1 .1)) (λ c. omega (arith, c .before .before .before .before .before .pre .1 .0)) (λ c. omega (arith, c .before .before .before .before .before .pre .1 .0)) (λ c. omega (arith, c .before .before .before .before .before .pre .1 .0)) (λ c. omega (arith, c .before .before .before .before .before .pre .1 .0, c .before .before .before .before .before .pre .0)) returns returns-2 returns-3)

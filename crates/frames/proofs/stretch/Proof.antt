@@ -1,6 +1,6 @@
 use native.Mathlib.Omega.{arith}
-use Rattle.frames.specs.Words.{serversOf}
-use Rattle.frames.specs.Answers.{stateOf}
+use Rattle.frame.specs.Words.{serversOf}
+use Rattle.frame.specs.Answers.{stateOf}
 use Rattle.frames.proofs.Fitting.{stretch-fares, stretch-jump}
 use borrow.Author.Needs.{needs}
 use Rattle.frames.proofs.stretch.Statement.{statement}
@@ -10,13 +10,12 @@ returns : tie.Need-returns
 returns c =
     let a = c .before .before .before .before .before .before .args in
     let p = c .before .before .before .before .before .before .pre in
-    (p .0, stretch-jump (stateOf (a .frame) (a .period) (serversOf (a .words .now)) (a .whole .now)) (c .before .jump .ensures) (p .1 .0) (p .1 .1 .0) (c .if1 .taken))
+    (p .0, stretch-jump (stateOf (a .frame) (a .period) (serversOf (a .words .now)) (a .whole .now)) (c .before .jump .ensures) (p .1 .0) (p .1 .1) (c .if1 .taken))
 
 beat-along-requires : tie.Need-beat-along-requires
-beat-along-requires c κs = let p = c .before .before .before .before .before .before .before .before .before .before .before .pre in (p .0, (p .1 .0, (p .1 .1 .0, ((p .1 .1 .1, c .before .before .before .before .before .before .before .before .loudest .ensures), c .before .before .before .calm .ensures (c .before .before .if2 .taken)))))
-
-play-fitting-requires : tie.Need-play-fitting-requires
-play-fitting-requires c κs = let p = c .before .before .before .before .before .before .before .before .before .before .before .pre in (p .0, (p .1 .0, (omega (arith, c .before .before .before .before .before .if1 .left), (p .1 .1 .1, c .before .before .before .before .before .before .before .before .loudest .ensures))))
+beat-along-requires c κs =
+    let p = c .before .before .before .before .before .before .before .before .before .before .before .pre in
+    (p .0, (p .1 .0, ((p .1 .1, c .before .before .before .before .before .if1 .left), (c .before .before .before .before .before .before .jump .ensures, c .before .before .before .calm .ensures (c .before .before .if2 .taken)))))
 
 returns-3 : tie.Need-returns-3
 returns-3 c =
@@ -25,4 +24,4 @@ returns-3 c =
     (p .0, stretch-fares (stateOf (a .frame) (a .period) (serversOf (a .words .now)) (a .whole .now)) (c .before .before .before .before .before .before .before .before .before .jump .ensures) (c .before .before .before .before .before .before .before .before .before .before .before .before .before .before .pre .1 .0) (c .before .before .before .before .before .before .before .before .if1 .left) (p .1))
 
 pub stretch-spec : {M : Type 1} → statement M
-stretch-spec = tie.close (tie.spec (λ c κs. c .before .before .pre .1 .1 .1) (λ c κs. (c .before .before .before .before .pre .1 .1 .0, (c .before .before .before .before .pre .1 .1 .1, c .before .loudest .ensures))) returns (λ c κs. (c .before .before .before .before .before .before .before .pre .1 .1 .1, c .before .before .before .before .loudest .ensures)) beat-along-requires play-fitting-requires (λ c. search needs) (λ c. c .before .before .beat-along .ensures) (λ c. search needs) returns-3)
+stretch-spec = tie.close (tie.spec (λ c κs. search needs) (λ c κs. (c .before .before .before .before .pre .1 .1, c .before .nobody-sent .ensures)) returns (λ c κs. c .before .before .before .before .nobody-sent .ensures) beat-along-requires (λ c κs. (c .before .before .before .before .before .before .before .before .before .before .before .pre .0, omega (arith, c .before .before .before .before .before .if1 .left))) (λ c. search needs) (λ c. c .before .before .beat-along .ensures) (λ c. search needs) returns-3)

@@ -3,8 +3,8 @@ use mathlib.Core.Path.{_≡_, _∙_, sym, ap, subst}
 use mathlib.Core.Logic.{inl, inr}
 use Prim.Native.Nat.{ℕ, _+_}
 use Rattle.lists.proofs.Cases.{fst-true, snd-true}
-use Rattle.frames.specs.Steps.{NotDue}
-use Rattle.frames.proofs.Hearings.{backup-is}
+use Rattle.frame.specs.Steps.{NotDue}
+use Rattle.frame.proofs.Hearings.{backup-is}
 use borrow.Author.Needs.{needs}
 use Rattle.frames.proofs.waits.Statement.{statement}
 use Rattle.frames.proofs.waits.Tie as tie

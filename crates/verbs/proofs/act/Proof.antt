@@ -1,8 +1,8 @@
 use mathlib.Core.Path.{_≡_, sym, ap}
 use native.Mathlib.Omega.{arith}
 use Rattle.server.specs.declared.Period.{Period}
-use Rattle.frames.specs.Words.{serversOf}
-use Rattle.frames.specs.Answers.{stateOf}
+use Rattle.frame.specs.Words.{serversOf}
+use Rattle.frame.specs.Answers.{stateOf}
 use Rattle.verbs.proofs.Acting.{verb-allowed, verb-refused}
 use borrow.Author.Needs.{needs}
 use Rattle.verbs.proofs.act.Statement.{statement}

@@ -1,6 +1,6 @@
 use mathlib.Core.Path.{_∙_}
-use Rattle.frames.specs.Words.{serversOf}
-use Rattle.frames.specs.Answers.{stateOf}
+use Rattle.frame.specs.Words.{serversOf}
+use Rattle.frame.specs.Answers.{stateOf}
 use Rattle.verbs.proofs.Acting.{known-by}
 use borrow.Author.Needs.{needs}
 use Rattle.verbs.proofs.knows.Statement.{statement}

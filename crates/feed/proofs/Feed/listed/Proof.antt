@@ -3,7 +3,7 @@ use mathlib.Core.List.{List}
 use mathlib.Core.Path.{ap₂}
 use lib.ListN.{replicate, take}
 use Rattle.server.specs.declared.Server.{Server}
-use Rattle.frames.specs.Answers.{stateOf}
+use Rattle.frame.specs.Answers.{stateOf}
 use Rattle.feeding.specs.Fed.{Fed}
 use Rattle.feed.specs.declared.Feed.{Feed}
 use Rattle.feed.specs.Answers.{dayOf}

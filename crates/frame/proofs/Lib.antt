@@ -1,0 +1,14 @@
+pub mod Words
+pub mod Writing
+pub mod Telling
+pub mod Hearings
+pub mod Heeding
+pub mod Lookup
+pub mod Frames
+pub mod Quiet
+pub mod Still
+pub mod Unheard
+pub mod Listing
+pub mod Loud
+pub mod Bound
+pub mod Faring

@@ -1,0 +1,9 @@
+use borrow.Author.Needs.{needs}
+use Rattle.plain.proofs.table_of.Statement.{statement}
+use Rattle.plain.proofs.table_of.Tie as tie
+
+returns : tie.Need-returns
+returns c = rw (c .servers-of .ensures)
+
+pub table-of-spec : {M : Type 1} → statement M
+table-of-spec = tie.close (tie.spec (λ c κs. search needs) returns)

@@ -1,0 +1,5 @@
+pub mod Front
+pub mod Writing
+pub mod Channel
+pub mod Laws
+pub mod Steps
