@@ -3,7 +3,7 @@ use group::State;
 use group::Table;
 use server::Period;
 ghost use mathlib.Core.Path.{_≡_};
-ghost use Rattle.frame.specs.Words.{serversOf};
+ghost use Rattle.places.specs.Words.{serversOf};
 ghost use Rattle.frame.specs.Answers.{stateOf};
 ghost use Rattle.bench.specs.Bench.{tableOf, OneStep, DayRuns, DayEnds};
 
@@ -88,7 +88,7 @@ pub extern "C" fn bench_day(servers: &[u64], period: u32, steps: &[u64], out: &m
     let opened = State::fresh(table, period);
     let state = opened.state;
     let listed = state.servers;
-    let mut words = frame::words_of(listed);
+    let mut words = places::words_of(listed);
     let mut whole = state.whole;
     let p = state.period;
     day(&mut words, &mut whole, p, state.frame, steps, out)

@@ -1,24 +1,21 @@
 -- One call of a number. Assumes nothing.
-use mathlib.Core.Bool.{Bool, true, false}
-use mathlib.Core.Path.{_≡_, refl, sym, ap, ap₂, _∙_}
-use mathlib.Core.Logic.{_⊎_, inl, inr, ⊎-elim}
-use mathlib.Core.List.{List, [], _∷_, _++_}
+use mathlib.Core.Bool.{true, false}
+use mathlib.Core.Path.{_≡_, sym, ap, ap₂, _∙_}
+use mathlib.Core.Logic.{_⊎_, ⊎-elim}
+use mathlib.Core.List.{List, _++_}
 use Prim.Native.Nat.{ℕ, _/_, _%_, _≤_, _<_}
 use native.Mathlib.Omega.{arith}
 use borrow.Author.Tests.{lt-ltb, le-ltb}
-use lib.Dec.{ltb, eqb}
-use lib.ListN.{length, take, drop, replicate, length-replicate, drop-of-length-le}
+use lib.Dec.{eqb}
+use lib.ListN.{length, take, drop, drop-of-length-le}
 use lib.Seq.{length-take-le, take-all}
-use Rattle.lists.specs.Choice.{choose}
 use Rattle.lists.proofs.Cases.{tested, less, chosen, other}
 use Rattle.group.specs.declared.State.{State}
 use Rattle.channel.specs.declared.Answer.{Answer}
 use Rattle.channel.specs.Answers.{state}
 use Rattle.group.specs.Outcome.{Outcome, numberIn, channelIn, sliceIn}
-use Rattle.group.specs.Verbs.{verbOutcome}
-use Rattle.group.specs.Advance.{stepOutcome, timeOutcome}
 use Rattle.group.specs.Answers.{Gives}
-use Rattle.group.specs.Calls.{Call, verb, advance, advanceTo, outcomeOf, sliceOf, callNumber, callChannel, callSlice}
+use Rattle.group.specs.Calls.{verb, advance, advanceTo, outcomeOf, sliceOf, callNumber, callChannel, callSlice}
 use Rattle.calls.specs.Encoding.{verbAt, kinds, identities, times, callOf, lesser}
 use Rattle.calls.specs.Steps.{OneCall}
 

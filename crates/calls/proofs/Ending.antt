@@ -11,7 +11,7 @@ use Rattle.lists.specs.Choice.{choose}
 use Rattle.lists.proofs.Cases.{chosen, other}
 use Rattle.refusal.specs.declared.Refusal.{Refusal}
 use Rattle.refusal.specs.declared.Refusal.the-variants.{Short}
-use Rattle.refusal.specs.declared.Verdict.the-variants.{Accepted, Refused}
+use Rattle.refusal.specs.declared.Verdict.the-variants.{Accepted}
 use Rattle.refusal.specs.Answer.{numberOf, ofVerdict}
 use Rattle.refusal.proofs.Answers.{number-some}
 use Rattle.heartbeat.specs.declared.Rank.{Rank}

@@ -1,7 +1,7 @@
 -- Calls one after the other. Assumes nothing.
 use mathlib.Core.Path.{_≡_, refl, sym, ap, ap₂, _∙_}
 use mathlib.Core.List.{List, [], _∷_, _++_, append-assoc, append-nil}
-use Prim.Native.Nat.{ℕ, zero, suc, _+_, _/_, _≤_, _<_}
+use Prim.Native.Nat.{ℕ, suc, _+_, _/_, _≤_, _<_}
 use native.Mathlib.Omega.{arith}
 use lib.ListN.{length, drop, take, getD, set, replicate, length-append, length-replicate, length-drop}
 use lib.Seq.{drop-cons}
@@ -10,7 +10,7 @@ use Rattle.lists.proofs.Splicing.{splice-none, splice-more, splice-length}
 use Rattle.group.specs.declared.State.{State}
 use Rattle.channel.specs.declared.Answer.{Answer}
 use Rattle.channel.specs.Answers.{state}
-use Rattle.group.specs.Calls.{Call, callNumber, callChannel, callSlice, channelAfter, numbersOf}
+use Rattle.group.specs.Calls.{Call, callNumber, callChannel, channelAfter, numbersOf}
 use Rattle.refusal.specs.Answer.{ofVerdict}
 use Rattle.calls.specs.Encoding.{callOf, callsOf, lesser}
 use Rattle.calls.specs.Running.{bytesAfter}

@@ -5,9 +5,8 @@ use mathlib.Core.List.{List}
 use Prim.Native.Nat.{ℕ, _+_, _≤_}
 use native.Mathlib.Omega.{arith}
 use borrow.Author.Tests.{ne-eqb}
-use lib.Dec.{eqb}
 use Rattle.refusal.specs.declared.Refusal.{Refusal}
-use Rattle.refusal.specs.Answer.{Answer, numberOf}
+use Rattle.refusal.specs.Answer.{numberOf}
 use Rattle.refusal.proofs.Answers.{number-some}
 use Rattle.text.specs.declared.NumberAnswer.{NumberAnswer}
 use Rattle.text.specs.declared.NumberAnswer.the-variants.{Is, Refused}

@@ -1,5 +1,5 @@
 -- A digit for each server. Assumes nothing.
-use mathlib.Core.Bool.{Bool, true, false}
+use mathlib.Core.Bool.{true, false}
 use mathlib.Core.Path.{_≡_, refl, sym, ap, _∙_}
 use mathlib.Core.Logic.{_⊎_, inl, inr}
 use mathlib.Core.List.{List, [], _∷_, _++_, append-assoc, append-nil}
@@ -16,7 +16,6 @@ use Rattle.server.specs.declared.Server.{Server}
 use Rattle.server.specs.Server.{absent}
 use Rattle.server.specs.Verbs.{roleNumber}
 use Rattle.group.specs.Table.{isEmpty, counted}
-use Rattle.cases.specs.declared.Roles.{Roles}
 use Rattle.cases.specs.Cases.{rolesIn, Shows, two, counts, callLine}
 
 -- the first n bytes show the first i places

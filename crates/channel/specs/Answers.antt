@@ -10,7 +10,7 @@ use Rattle.group.specs.declared.Table.{Table}
 use Rattle.group.specs.Table.{freshRefusal, fresh}
 use Rattle.group.specs.Outcome.{Outcome}
 use Rattle.group.specs.Answers.{noChannel, Gives}
-use Rattle.frame.specs.Words.{serversOf}
+use Rattle.places.specs.Words.{serversOf}
 use Rattle.frame.specs.Answers.{stateOf}
 use Rattle.channel.specs.declared.Channel.{Channel}
 use Rattle.channel.specs.declared.Opened.{Opened}

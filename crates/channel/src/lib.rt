@@ -55,7 +55,7 @@ impl Channel {
         let verdict = opened.verdict;
         let state = opened.state;
         let servers = state.servers;
-        let words = frame::words_of(servers);
+        let words = places::words_of(servers);
         let period = state.period;
         let whole = state.whole;
         Opened {
@@ -74,7 +74,7 @@ impl Channel {
         ensures { λ r. ⌜ r ≡ state self ⌝ }
     {
         let words = self.words;
-        let servers = frame::servers_of(&words);
+        let servers = places::servers_of(&words);
         let period = self.period;
         let whole = self.whole;
         State {
@@ -90,7 +90,7 @@ impl Channel {
         ensures { λ r. ⌜ state r ≡ from ⌝ }
     {
         let servers = from.servers;
-        let words = frame::words_of(servers);
+        let words = places::words_of(servers);
         let period = from.period;
         let whole = from.whole;
         Channel {

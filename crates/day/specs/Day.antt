@@ -1,5 +1,5 @@
 -- A day, line by line.
-use mathlib.Core.Bool.{Bool, true, false}
+use mathlib.Core.Bool.{true, false}
 use mathlib.Core.List.{List, [], _++_}
 use Prim.Native.Nat.{ℕ, _-_}
 use lib.Dec.{ltb, leb, eqb}
@@ -7,7 +7,6 @@ use Rattle.lists.specs.Choice.{choose}
 use Rattle.server.specs.declared.Verb.{Verb}
 use Rattle.group.specs.declared.State.{State}
 use Rattle.group.specs.declared.Table.{Table}
-use Rattle.group.specs.Outcome.{Outcome}
 use Rattle.group.specs.Table.{empty, addRefusal, added, freshRefusal, fresh}
 use Rattle.lines.specs.Lines.{line, refusedWord}
 use Rattle.group.specs.Verbs.{known, verbOutcome}

@@ -5,7 +5,7 @@ use Rattle.text.specs.Words.{bytes}
 use Rattle.text.specs.Digits.{digits}
 use Rattle.lines.specs.Lines.{refusedWord}
 use Rattle.day.specs.Read.{linesIn, lineRead}
-use Rattle.day.specs.Day.{Stage, atPeriod, atServers, atEntries, atClose, Day, begin, Effect, stop, go, effectOf}
+use Rattle.day.specs.Day.{Stage, atPeriod, atServers, atEntries, atClose, Day, begin, stop, go, effectOf}
 
 -- "The first line of every sheet is the header `time`, `server`, `what`."
 abbrev pub header : List ℕ

@@ -1,11 +1,10 @@
 -- The worked days hold: one test, computed over the whole table. Assumes nothing.
+use mathlib.Core.List.{[]}
 use mathlib.Core.Bool.{Bool, true, false, not, _&&_}
-use mathlib.Core.Path.{_≡_, refl, sym, ap, _∙_}
-use mathlib.Core.List.{List, [], _∷_}
-use Prim.Native.Nat.{ℕ, _<_}
+use mathlib.Core.Path.{_≡_, refl, sym}
 use borrow.Author.Tests.{eqb-true}
 use lib.Dec.{eqb}
-use lib.ListN.{length, getD}
+use lib.ListN.{getD}
 use Rattle.lists.specs.Choice.{choose}
 use Rattle.lists.specs.Lists.{all, same, splitOn, upTo}
 use Rattle.lists.proofs.Cases.{fst-true, snd-true}
@@ -21,7 +20,7 @@ use Rattle.heartbeat.specs.Rank.{higher}
 use Rattle.heartbeat.specs.Heartbeat.{isSet, readFields, readBody, readHeartbeat, heartbeatLine}
 use Rattle.server.specs.Period.{takePeriod}
 use Rattle.server.specs.Server.{oneMore, sentBy, sentAny, after}
-use Rattle.server.specs.Hearing.{forThis, backupHears, prospectHears, primaryHears}
+use Rattle.hearing.specs.Hearing.{forThis, backupHears, prospectHears, primaryHears}
 use Rattle.server.specs.Timers.{afterSilent, afterBeating, afterRising}
 use Rattle.server.specs.Verbs.{from, enters, entering, verbHappens, verbAnswer}
 use Rattle.group.specs.Table.{placeIn, standsBefore, enter, addRefusal, added, freshRefusal}

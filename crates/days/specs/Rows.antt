@@ -4,7 +4,6 @@ use mathlib.Core.Path.{_≡_}
 use mathlib.Core.List.{List, [], _∷_}
 use Prim.Native.Nat.{ℕ, _<_}
 use lib.ListN.{length, getD}
-use Rattle.refusal.specs.Answer.{Answer}
 use Rattle.text.specs.Words.{bytes}
 use Rattle.timecode.specs.Read.{readTimecode}
 use Rattle.heartbeat.specs.declared.Heartbeat.{Heartbeat}

@@ -15,7 +15,7 @@ use Rattle.lists.proofs.Splicing.{splice-none, splices, splice-length}
 use Rattle.lists.proofs.Parts.{part-rest}
 use Rattle.text.specs.declared.Written.{Written}
 use Rattle.text.specs.declared.Written.the-variants.{To, Refused}
-use Rattle.text.specs.Write.{writing, Writes}
+use Rattle.text.specs.Write.{Writes}
 use Rattle.text.proofs.Writing.{writes-to, written-end, written-slice}
 use Rattle.group.specs.Verbs.{known}
 use Rattle.group.specs.declared.State.{State}
@@ -24,7 +24,7 @@ use Rattle.day.specs.Day.{lastLine}
 use Rattle.day.specs.Sheet.{header, sheet}
 use Rattle.daysheet.specs.declared.Spent.{Spent}
 use Rattle.feeding.specs.Fed.{Fed, beginning, withByte, wholeLine, closed, waits, taken, takenBytes, remaining}
-use Rattle.feeding.specs.Moves.{Move, nothing, placeRefusal, framesDue, dueFrames, stepsMove, lastMove}
+use Rattle.feeding.specs.Moves.{Move, placeRefusal, framesDue, dueFrames, stepsMove, lastMove}
 use Rattle.feeding.specs.Bound.{stepBytes, Bounded}
 use Rattle.feeding.specs.Laws.{stepsLeft}
 use Rattle.feeding.specs.Steps.{Sized}

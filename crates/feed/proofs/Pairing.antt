@@ -18,7 +18,7 @@ use Rattle.text.specs.Write.{wrote, Writes}
 use Rattle.text.proofs.Writing.{writes-to, written-end, written-slice}
 use Rattle.day.specs.Read.{DayLine, lineRead}
 use Rattle.feeding.specs.Fed.{Fed, waits}
-use Rattle.feeding.specs.Moves.{Move, nothing, lineMove, stepMove, stepsMove}
+use Rattle.feeding.specs.Moves.{Move, lineMove, stepMove, stepsMove}
 use Rattle.feeding.proofs.Laws.{line-kept, both-so, both-not, step-idle, step-is}
 use Rattle.feed.specs.Answers.{Makes}
 use Rattle.feed.specs.Steps.{Follows}

@@ -9,7 +9,7 @@ use Rattle.lists.specs.Splice.{fits}
 use Rattle.text.specs.declared.Written.{Written}
 use Rattle.text.specs.Write.{Writes}
 use Rattle.group.specs.declared.State.{State}
-use Rattle.frame.specs.Words.{serversOf}
+use Rattle.places.specs.Words.{serversOf}
 use Rattle.frame.specs.Answers.{stateOf}
 use Rattle.day.specs.Day.{Day, begin, on, atServers, atEntries, atClose}
 use Rattle.day.specs.Sheet.{header}

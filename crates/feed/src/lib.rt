@@ -18,7 +18,7 @@ ghost use Rattle.text.specs.Write.{Writes};
 ghost use Rattle.text.specs.Steps.{Pieces};
 ghost use Rattle.server.specs.Period.{leastPeriod, greatestPeriod, beatLimit};
 ghost use Rattle.group.specs.Table.{empty, freshRefusal, fresh};
-ghost use Rattle.frame.specs.Words.{serversOf};
+ghost use Rattle.places.specs.Words.{serversOf};
 ghost use Rattle.day.specs.Read.{entry, end, lineRead};
 ghost use Rattle.day.specs.Day.{on, atServers, stop, periodEffect, addEffect, serverEffect, callEffect, entryEffect, endEffect, lastLine, beyond};
 ghost use Rattle.day.specs.Sheet.{inputRefusal, finish};
@@ -261,7 +261,7 @@ impl Feed {
         requires { ⌜ self .number ≤ lastLine ⌝ }
         ensures { λ r. ⌜ Becomes self (now (words .entry)) (now (whole .entry)) (λ f c. going f [] (on atServers (fresh (record { servers = servers }) (beatLimit period)))) r (now (words .exit)) (now (whole .exit)) ⌝ }
     {
-        *words = frame::words_of(servers);
+        *words = places::words_of(servers);
         *whole = [true; 256];
         let mut next = self.turned(Stage::AtServers);
         next.frame = 0;
@@ -322,7 +322,7 @@ impl Feed {
         requires { ⌜ self .number ≤ lastLine ⌝ }
         ensures { λ r. ⌜ Does self (now (words .entry)) (now (whole .entry)) (λ f c. effectMove f (addEffect c identity priority)) (now (out .entry)) r (now (words .exit)) (now (whole .exit)) (now (out .exit)) ⌝ }
     {
-        let servers = frame::servers_of(words);
+        let servers = places::servers_of(words);
         let table = Table { servers };
         let added = table.add(identity, priority);
         let verdict = added.verdict;
@@ -364,7 +364,7 @@ impl Feed {
     fn complete(self, words: &[u32; 80]) -> Verdict
         ensures { λ r. ⌜ ofVerdict r ≡ freshRefusal (record { servers = serversOf (now (words .entry)) }) (beatLimit (self .period)) ⌝ }
     {
-        let servers = frame::servers_of(words);
+        let servers = places::servers_of(words);
         let table = Table { servers };
         let period = self.period;
         let opened = State::fresh(table, period.beat_limit());

@@ -1,5 +1,4 @@
 -- How much a step prints at the most. Assumes nothing.
-use mathlib.Core.Bool.{not}
 use mathlib.Core.Path.{_≡_, refl, sym, ap, subst, _∙_}
 use mathlib.Core.List.{List, [], _∷_, _++_, append-nil}
 use Prim.Native.Nat.{ℕ, suc, _-_, _≤_, _<_}
@@ -15,7 +14,7 @@ use Rattle.lines.specs.Lines.{refusedWord}
 use Rattle.lines.proofs.Pieces.{line-long}
 use Rattle.server.specs.declared.Verb.{Verb}
 use Rattle.group.specs.declared.State.{State}
-use Rattle.group.specs.Table.{most, addRefusal, freshRefusal}
+use Rattle.group.specs.Table.{addRefusal, freshRefusal}
 use Rattle.group.specs.Hearing.{place}
 use Rattle.group.specs.Frame.{frameLines}
 use Rattle.group.specs.Verbs.{known, verbRefusal, verbOutcome}

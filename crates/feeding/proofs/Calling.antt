@@ -11,7 +11,7 @@ use Rattle.lists.proofs.Cases.{equal, less, tested, on, chosen, other, by-choic
 use Rattle.refusal.specs.declared.Refusal.{Refusal}
 use Rattle.refusal.specs.declared.Verdict.{Verdict}
 use Rattle.refusal.specs.declared.Verdict.the-variants.{Accepted, Refused}
-use Rattle.refusal.specs.Answer.{Answer, refused, accepted, numberOf, ofVerdict}
+use Rattle.refusal.specs.Answer.{Answer, refused, numberOf, ofVerdict}
 use Rattle.refusal.proofs.Answers.{number-some}
 use Rattle.text.specs.declared.Written.the-variants as written
 use Rattle.text.specs.Write.{writing, wrote, Writes}

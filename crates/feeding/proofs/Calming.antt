@@ -20,7 +20,7 @@ use Rattle.server.specs.declared.Server.{Server}
 use Rattle.server.specs.declared.Verb.{Verb}
 use Rattle.server.specs.declared.Verb.the-variants.{Start, Ready, Unready, Pass, Crash, Restart, Cut, Mend}
 use Rattle.server.specs.Server.{absent, idle, oneMore, mostBeats, cleared, after}
-use Rattle.server.specs.Hearing.{backupHears, prospectHears, primaryHears, hearsIn, attending, heard}
+use Rattle.hearing.specs.Hearing.{backupHears, prospectHears, primaryHears, hearsIn, attending, heard}
 use Rattle.server.specs.Timers.{silentIn, beatingIn, risingIn, afterSilent, afterBeating, afterRising, timed}
 use Rattle.server.specs.Verbs.{entering, verbEvent, verbHappens}
 use Rattle.group.specs.declared.State.{State}

@@ -21,12 +21,12 @@ use Rattle.group.specs.Verbs.{known, verbOutcome}
 use Rattle.group.specs.Advance.{advancedBy, linesBy, fitting}
 use Rattle.group.proofs.Laws.{keeps-by, fit-bounds}
 use Rattle.group.proofs.Places.{frame-after}
-use Rattle.frames.proofs.Playing.{advanced-add, lines-add}
+use Rattle.group.proofs.Adding.{advanced-add, lines-add}
 use Rattle.day.specs.Read.{DayLine, wrong, period, server, entry, end, linesIn, lineRead}
 use Rattle.day.specs.Day.{Day, Effect, stop, go, on as during, atEntries, refusal, callEffect, entryEffect, endEffect, lineEffect, lastLine, beyond, effectOf}
 use Rattle.day.specs.Sheet.{inputRefusal, sheetFrom}
 use Rattle.feeding.specs.Fed.{Fed, wholeLine, waits, before, remaining}
-use Rattle.feeding.specs.Moves.{nothing, ended, nextLine, effectMove, placeRefusal, framesDue, dueFrames, framesNow, advancing, placedMove, lineMove, stepMove}
+use Rattle.feeding.specs.Moves.{ended, nextLine, effectMove, placeRefusal, framesDue, dueFrames, framesNow, advancing, placedMove, lineMove, stepMove}
 use Rattle.feeding.proofs.Taking.{whole-none}
 use Rattle.feeding.proofs.Remaining.{left-over, left-on, left-whole, left-part, sheet-stop, sheet-go}
 use Rattle.feeding.proofs.Placing.{in-place}

@@ -1,38 +1,35 @@
 use Rattle.lists.proofs.Cases.{bit-small}
 -- The most bytes that a frame can write. Assumes nothing.
 use mathlib.Core.Bool.{Bool, true, false}
-use mathlib.Core.Path.{_≡_, refl, sym, ap, _∙_}
+use mathlib.Core.Path.{_≡_, ap, _∙_}
 use mathlib.Core.List.{List, [], _∷_, _++_}
-use Prim.Native.Nat.{ℕ, zero, suc, _+_, _*_, _/_, _≤_, _<_, _^_}
+use Prim.Native.Nat.{ℕ, zero, suc, _+_, _*_, _/_, _≤_, _<_}
 use native.Mathlib.Omega.{arith}
 use native.Mathlib.Nat.{suc-mul}
-use lib.Dec.{eqb, ltb}
+use lib.Dec.{eqb}
 use lib.ListN.{length, getD, replicate, length-append, length-replicate}
 use Rattle.lists.specs.Choice.{choose}
 use Rattle.lists.proofs.Cases.{less, on}
-use Rattle.text.specs.Digits.{digits}
 use Rattle.text.proofs.Digits.{digits-few}
 use Rattle.heartbeat.specs.declared.Heartbeat.{Heartbeat}
 use Rattle.server.specs.declared.Said.{Said}
 use Rattle.server.specs.declared.Said.the-variants as says
 use Rattle.server.specs.declared.Server.{Server}
-use Rattle.server.specs.declared.Period.{Period}
 use Rattle.server.specs.declared.Timed.{Timed}
 use Rattle.server.specs.declared.Word.{Word}
 use Rattle.server.specs.Server.{absent, cleared, plainOf, revealOf, passOf, sentBy}
-use Rattle.server.specs.Hearing.{heard}
+use Rattle.hearing.specs.Hearing.{heard}
 use Rattle.server.specs.Words.{wordBytes, said}
 use Rattle.server.specs.Timers.{timed}
 use Rattle.lines.specs.Lines.{line, linesOf}
 use Rattle.lines.proofs.Pieces.{line-long, word-short}
 use Rattle.group.specs.declared.State.{State}
 use Rattle.group.specs.Table.{most}
-use Rattle.group.specs.Hearing.{place, isPlace, nextSender, sendersAfter, senders, sentByAll, inbox}
-use Rattle.group.specs.Frame.{heardAll, heardLines, timedLines, hearing, turnLines, turnsLines, frameLines}
-use Rattle.frame.specs.Words.{sendingNumber}
+use Rattle.group.specs.Hearing.{place, nextSender, sendersAfter, sentByAll, inbox}
+use Rattle.group.specs.Frame.{heardLines, timedLines, hearing, turnLines, turnsLines, frameLines}
 use Rattle.frame.specs.Steps.{Loud, mostBytes}
 use Rattle.frame.proofs.Lookup.{some-after, none-after}
-use Rattle.frame.proofs.Hearings.{heard-identity, one-identity}
+use Rattle.frame.proofs.Hearings.{one-identity}
 
 -- ---- lines
 

@@ -1,10 +1,10 @@
 -- The lines of a frame, server by server. Assumes nothing.
 use mathlib.Core.Bool.{Bool, false}
 use mathlib.Core.Path.{_≡_, refl, sym, ap, subst, _∙_}
-use mathlib.Core.List.{List, [], _∷_, _++_}
-use Prim.Native.Nat.{ℕ, suc, _+_, _≤_, _<_}
+use mathlib.Core.List.{List, _++_}
+use Prim.Native.Nat.{ℕ, _+_, _<_}
 use native.Mathlib.Numerals.{add-one}
-use lib.ListN.{length, drop, getD, set, drop-of-length-le}
+use lib.ListN.{length, drop, getD, set}
 use lib.Seq.{drop-cons, set-getD}
 use Rattle.lists.specs.Lists.{mapFrom}
 use Rattle.heartbeat.specs.declared.Heartbeat.{Heartbeat}
@@ -18,7 +18,7 @@ use Rattle.frame.specs.Steps.{Ran}
 use Rattle.frame.specs.declared.Told.{Told}
 use Rattle.group.specs.Hearing.{inbox}
 use Rattle.group.specs.Frame.{heardAll, heardLines, timedLines, hearing, turned, turnLines, turnsLines, advanced, frameLines}
-use Rattle.frame.specs.Steps.{Out, Does, Turns, JustListens, anySent, Runs, ticksIn, TicksAt, TicksAll, tickLines, resting}
+use Rattle.frame.specs.Steps.{Out, Does, Turns, anySent, Runs, ticksIn, TicksAt, TicksAll, tickLines, resting}
 use Rattle.frame.proofs.Quiet.{no-timer, ticks-frame}
 use Rattle.frame.proofs.Hearings.{no-ticks}
 

@@ -1,7 +1,7 @@
 -- Heartbeats heard one after the other, with the lines they print. Assumes nothing.
 --     Hearing: where s is to hear hs yet, to hear them is to hear all of hs₀ from s₀ on
 --     begin, turn, finish: a loop begins; the next ones are heard; nothing is left
-use mathlib.Core.Bool.{Bool, true, false, not, _&&_}
+use mathlib.Core.Bool.{Bool, true, false, not}
 use mathlib.Core.Path.{_≡_, refl, sym, ap, ap₂, subst, _∙_}
 use mathlib.Core.List.{List, [], _∷_, _++_, append-assoc, append-nil}
 use Prim.Native.Nat.{ℕ, zero, suc, _+_, _-_, _<_, _≤_}
@@ -15,21 +15,21 @@ use Rattle.server.specs.declared.Role.{Role}
 use Rattle.server.specs.declared.Role.the-variants as role
 use Rattle.server.specs.declared.Event.{Event}
 use Rattle.server.specs.declared.Event.the-variants as event
-use Rattle.server.specs.declared.Heard.{Heard}
+use Rattle.hearing.specs.declared.Heard.{Heard}
 use Rattle.server.specs.declared.Server.{Server}
 use Rattle.server.specs.declared.Period.{Period}
 use Rattle.server.specs.declared.Timed.{Timed}
 use Rattle.server.specs.Server.{cleared, after, setSilence, setBeat, sendBeat, plainOf, revealOf, passOf, sentBy}
-use Rattle.server.specs.Hearing.{attending, heard, hearsIn, backupHears, forThis}
+use Rattle.hearing.specs.Hearing.{attending, heard, hearsIn, backupHears, forThis}
 use Rattle.server.specs.Period.{silenceLimit}
 use Rattle.server.specs.Timers.{aged, timed}
 use Rattle.server.specs.Words.{said}
 use Rattle.frame.specs.declared.Told.{Told}
 use Rattle.lines.specs.Lines.{linesOf}
 use Rattle.group.specs.Frame.{heardAll, heardLines, timedLines}
-use Rattle.frame.specs.Answers.{isBackup}
+use Rattle.places.specs.Roles.{isBackup}
 use Rattle.frame.specs.Steps.{ticksIn, Out, Hears, Does, onlyListens, Turns, JustListens, resting}
-use Rattle.frame.proofs.Words.{not-so}
+use Rattle.places.proofs.Words.{not-so}
 use Rattle.frame.proofs.Writing.{chain, start}
 use Rattle.frame.proofs.Quiet.{no-timer}
 

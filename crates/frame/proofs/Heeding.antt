@@ -5,11 +5,11 @@ use mathlib.Core.List.{List, [], _∷_, _++_}
 use mathlib.Core.Logic.{_⊎_, inl, inr}
 use Prim.Native.Nat.{ℕ, zero, suc, _+_, _*_, _/_, _%_, _≤_, _<_}
 use native.Mathlib.Omega.{arith}
-use borrow.Author.Tests.{lt-ltb, le-ltb, ltb-true, leb-true, eqb-true, eqb-false, eq-eqb}
-use lib.Dec.{eqb, ltb, leb}
+use borrow.Author.Tests.{lt-ltb, le-ltb, ltb-true, eqb-true, eqb-false, eq-eqb}
+use lib.Dec.{eqb, ltb}
 use lib.ListN.{getD, replicate, take}
 use Rattle.lists.specs.Choice.{choose}
-use Rattle.lists.proofs.Cases.{tested, less, on, chosen, other, by-choice, clash, and-right, fst-true, snd-true}
+use Rattle.lists.proofs.Cases.{less, on, chosen, other, by-choice, clash, and-right, fst-true, snd-true}
 use Rattle.heartbeat.specs.declared.Heartbeat.{Heartbeat}
 use Rattle.heartbeat.specs.Rank.{higher}
 use Rattle.heartbeat.specs.Heartbeat.{isSet}
@@ -17,20 +17,23 @@ use Rattle.server.specs.declared.Role.{Role}
 use Rattle.server.specs.declared.Role.the-variants as role
 use Rattle.server.specs.declared.Event.{Event}
 use Rattle.server.specs.declared.Event.the-variants as event
-use Rattle.server.specs.declared.Heard.{Heard}
+use Rattle.hearing.specs.declared.Heard.{Heard}
 use Rattle.server.specs.declared.Server.{Server}
 use Rattle.server.specs.Server.{rankOf, setSilence, cleared, plainOf, revealOf, passOf, sentBy, sentAny, after}
-use Rattle.server.specs.Hearing.{fromHigher, fromLower, forThis, backupHears, prospectHears, hearsIn, attending, heard}
+use Rattle.hearing.specs.Hearing.{fromHigher, fromLower, forThis, backupHears, prospectHears, hearsIn, attending, heard}
 use Rattle.server.specs.Words.{said}
 use Rattle.lines.specs.Lines.{linesOf}
 use Rattle.group.specs.Frame.{heardAll, heardLines}
-use Rattle.frame.specs.Words.{rankNumber}
-use Rattle.frame.specs.Answers.{isBackup, stillIn, isStill}
-use Rattle.frame.specs.Steps.{Out, Hears, isProspect, takesPart, staysUnder, heedsOnly, SenderList, senderOf, overBy, comesBy, heardBy, bestBy, nextBy, sendersBy, sentOf}
-use Rattle.frame.proofs.Words.{not-so}
+use Rattle.places.specs.Words.{rankNumber}
+use Rattle.places.specs.Roles.{isBackup, stillIn, isStill}
+use Rattle.places.specs.Roles.{isProspect, takesPart}
+use Rattle.places.specs.Order.{overBy, comesBy, heardBy}
+use Rattle.frame.specs.Steps.{Out, Hears, heedsOnly, SenderList, senderOf, bestBy, nextBy, sendersBy, sentOf}
+use Rattle.places.proofs.Words.{not-so}
+use Rattle.places.proofs.Roles.{still-by}
 use Rattle.frame.proofs.Writing.{start}
 use Rattle.frame.proofs.Hearings.{heard-append, said-append, backup-is}
-use Rattle.frame.proofs.Lookup.{higher-number, inboxAfter, heard-none, some-by, none-by}
+use Rattle.frame.proofs.Lookup.{higher-number, inboxAfter, some-by, none-by}
 
 -- hearing hs in frame t makes x of s, and nothing is said
 pub record Silent (t : ℕ) (s : Server) (hs : List Heartbeat) (x : Server) : Type 0 where
@@ -190,14 +193,6 @@ heeds-silently t s rank sending fits e =
 pub and-false : (a b : Bool) → (a && b) ≡ false → (a ≡ false) ⊎ (b ≡ false)
 and-false true b e = inr e
 and-false false b e = inl refl
-
-pub still-by : (r : Role) (b : Bool) → (not (takesPart r) && not b) ≡ stillIn r b
-still-by role.Down b = refl
-still-by role.Idle b = refl
-still-by role.Sync b = refl
-still-by role.Backup b = refl
-still-by role.Prospect b = refl
-still-by role.Primary b = refl
 
 pub aside-still : (s : Server) → takesPart (s .role) ≡ false → isStill (cleared s) ≡ true
 unfolding sentAny choose

@@ -1,6 +1,6 @@
 use Rattle.lists.proofs.Cases.{bit-small}
 -- The list of those who sent, and of all ranks. Assumes nothing.
-use mathlib.Core.Bool.{Bool, true, false}
+use mathlib.Core.Bool.{false}
 use mathlib.Core.Path.{_≡_, refl, sym, ap, _∙_}
 use mathlib.Core.List.{List, [], _∷_, _++_, append-nil}
 use mathlib.Core.Logic.{⊎-elim}
@@ -15,9 +15,9 @@ use Rattle.lists.specs.Choice.{choose}
 use Rattle.lists.proofs.Cases.{tested, less, on, chosen, other}
 use Rattle.server.specs.declared.Server.{Server}
 use Rattle.server.specs.Server.{absent, sentAny}
-use Rattle.frame.specs.Words.{rankNumber, sendingNumber}
+use Rattle.places.specs.Words.{rankNumber, sendingNumber}
 use Rattle.frame.specs.Steps.{sentBelow, Still, Ranked, Sends, Lists}
-use Rattle.frame.proofs.Words.{Fits}
+use Rattle.places.proofs.Words.{Fits}
 use Rattle.frame.proofs.Lookup.{sent-number}
 use Rattle.frame.proofs.Still.{still-unsent}
 

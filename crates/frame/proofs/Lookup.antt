@@ -8,7 +8,7 @@ use native.Mathlib.Omega.{arith}
 use native.Mathlib.Numerals.{add-one}
 use borrow.Author.Tests.{lt-ltb, le-ltb, eq-eqb, ne-eqb, eqb-true, eqb-false}
 use lib.Dec.{eqb, ltb}
-use lib.ListN.{length, take, drop, set, getD, replicate, length-set, drop-of-length-le}
+use lib.ListN.{length, take, drop, set, getD, length-set, drop-of-length-le}
 use lib.Seq.{drop-cons, take-suc, take-set-le, take-suc-set, length-take-le, getD-take, getD-set-other, getD-set-same}
 use Rattle.lists.specs.Choice.{choose}
 use Rattle.lists.proofs.Cases.{tested, less, equal, on, chosen, other, and-left, and-right, or-false, bit-small, bit-back}
@@ -22,9 +22,10 @@ use Rattle.group.specs.declared.State.{State}
 use Rattle.frame.specs.Steps.{SenderList}
 use Rattle.group.specs.Table.{most}
 use Rattle.group.specs.Hearing.{place, whole, noPlace, hearsFrom, over, isPlace, comes, nextAmong, nextSender, sendersAfter, sentByAll, inbox}
-use Rattle.frame.specs.Words.{rankNumber, sendingNumber}
-use Rattle.frame.specs.Steps.{sentBelow, Still, Ranked, senderOf, Listed, Numbers, Lists, overBy, comesBy, heardBy, bestBy, heardOf, bestIn, Near, nextBy, sendersBy, sentOf, inboxBy}
-use Rattle.frame.proofs.Words.{Fits, parts}
+use Rattle.places.specs.Words.{rankNumber, sendingNumber}
+use Rattle.places.specs.Order.{overBy, comesBy, heardBy}
+use Rattle.frame.specs.Steps.{sentBelow, senderOf, Listed, Numbers, Lists, bestBy, heardOf, bestIn, Near, nextBy, sendersBy, sentOf, inboxBy}
+use Rattle.places.proofs.Words.{parts}
 
 -- ---- the numbers of the servers
 

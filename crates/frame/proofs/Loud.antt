@@ -1,19 +1,18 @@
 -- The greatest number of what was sent. Assumes nothing.
-use mathlib.Core.Bool.{Bool, true, false}
-use mathlib.Core.Path.{_≡_, refl, sym, ap, subst, _∙_}
+use mathlib.Core.Bool.{false}
+use mathlib.Core.Path.{_≡_, refl, sym, subst, _∙_}
 use mathlib.Core.List.{List}
 use mathlib.Core.Logic.{⊎-elim}
 use Prim.Native.Nat.{ℕ, zero, suc, _+_, _≤_, _<_}
 use native.Mathlib.Omega.{arith}
 use borrow.Author.Tests.{eq-eqb}
-use lib.Dec.{eqb}
-use lib.ListN.{length, getD}
+use lib.ListN.{getD}
 use Rattle.lists.specs.Choice.{choose}
 use Rattle.lists.specs.Lists.{anyBelow}
-use Rattle.lists.proofs.Cases.{tested, less, on, chosen, other}
+use Rattle.lists.proofs.Cases.{tested, less, on, chosen}
 use Rattle.server.specs.declared.Server.{Server}
 use Rattle.server.specs.Server.{absent, sentAny}
-use Rattle.frame.specs.Words.{sendingNumber}
+use Rattle.places.specs.Words.{sendingNumber}
 use Rattle.frame.specs.Steps.{Still, Loud, anySent}
 use Rattle.frame.proofs.Lookup.{sent-number}
 use Rattle.frame.proofs.Listing.{unsent-number}

@@ -1,16 +1,17 @@
 -- Frames in which nothing happens. Assumes nothing.
 use mathlib.Core.Bool.{Bool, true, false, not, _&&_, _||_}
-use mathlib.Core.Path.{_≡_, refl, sym, ap, ap₂, subst, _∙_}
-use mathlib.Core.Logic.{_⊎_, inl, inr, ⊎-elim}
+use mathlib.Core.Path.{_≡_, refl, sym, ap, ap₂, _∙_}
+use mathlib.Core.Logic.{_⊎_, inr, ⊎-elim}
 use mathlib.Core.List.{List, [], _∷_, _++_}
 use Prim.Native.Nat.{ℕ, zero, suc, _+_, _-_, _≤_, _<_}
 use native.Mathlib.Omega.{arith}
-use borrow.Author.Tests.{ne-eqb, eqb-true, not-true, lt-leb, le-leb}
+use borrow.Author.Tests.{ne-eqb, eqb-true, lt-leb, le-leb}
 use lib.Dec.{eqb, ltb, leb}
 use lib.ListN.{length, getD}
 use Rattle.lists.specs.Choice.{choose}
 use Rattle.lists.specs.Lists.{mapFrom, anyBelow}
-use Rattle.lists.proofs.Cases.{tested, less, chosen, other, clash, fst-true, snd-true}
+use Rattle.lists.proofs.Cases.{less, chosen, other, clash, fst-true, snd-true, or-false}
+use Rattle.lists.proofs.AnyLoop.{none-below}
 use Rattle.heartbeat.specs.declared.Heartbeat.{Heartbeat}
 use Rattle.server.specs.declared.Role.{Role}
 use Rattle.server.specs.declared.Role.the-variants as role
@@ -29,17 +30,9 @@ use Rattle.lines.specs.Lines.{linesOf}
 use Rattle.group.specs.Hearing.{inbox}
 use Rattle.group.specs.Frame.{heardAll, heardLines, timedLines, hearing, turned, turnLines, turnsLines, advanced, frameLines, movedTo}
 use Rattle.group.specs.Advance.{advancedBy, linesBy}
-use Rattle.frame.specs.Answers.{isPrimary}
+use Rattle.places.specs.Roles.{isPrimary}
 use Rattle.frame.specs.Steps.{ticksIn, anySent, ticked, tickLines, NotDue, resting, Rests, AllRest}
 use Rattle.group.proofs.Laws as law
-
-or-first : (a b : Bool) → (a || b) ≡ false → a ≡ false
-or-first true b e = e
-or-first false b e = refl
-
-or-second : (a b : Bool) → (a || b) ≡ false → b ≡ false
-or-second true b e = absurd (let z : _≡_ {A = ℕ} 0 1 = cc in omega arith)
-or-second false b e = e
 
 -- ---- timers that are not due
 
@@ -180,7 +173,7 @@ module _ (t : ℕ) (p : Period) (s : Server) where
   no-timer role.Idle q h = calm-in role.Idle q refl refl refl
   no-timer role.Sync q h = calm-in role.Sync q refl refl refl
   no-timer role.Backup q h = calm-in role.Backup q (other _ h) refl refl
-  no-timer role.Prospect q h = calm-in role.Prospect q refl (other _ (or-first (aged (s .beat) (beatLimit p) t) _ h)) (other _ (or-second (aged (s .beat) (beatLimit p) t) _ h))
+  no-timer role.Prospect q h = calm-in role.Prospect q refl (other _ (or-false (aged (s .beat) (beatLimit p) t) _ h .0)) (other _ (or-false (aged (s .beat) (beatLimit p) t) _ h .1))
   no-timer role.Primary q h = calm-in role.Primary q refl (other _ h) refl
 
 -- a primary whose beat is due only beats
@@ -217,13 +210,7 @@ primary-beats t p s q h = let r = primary-is (s .role) q in beats-in t p s r (ap
 
 -- where nobody sent
 pub unsent : (l : List Server) (n i : ℕ) → anyBelow n (λ (k : ℕ). sentAny (getD l k absent)) ≡ false → i < n → sentAny (getD l i absent) ≡ false
-unfolding anyBelow
-unsent l zero i e h = absurd (omega arith)
-unsent l (suc n) i e h =
-    ⊎-elim
-    (λ g. unsent l n i (or-first (anyBelow n (λ (k : ℕ). sentAny (getD l k absent))) _ e) g)
-    (λ g. let q : i ≡ n = omega arith in rw q (or-second (anyBelow n (λ (k : ℕ). sentAny (getD l k absent))) _ e))
-    (less i n)
+unsent l n i e h = none-below (λ (k : ℕ). sentAny (getD l k absent)) n i e h
 
 -- who sent nothing is cleared already
 sent-nothing : (a r p : Bool) → choose a (choose r true (not p)) true ≡ false → (a ≡ true) × ((r ≡ false) × (p ≡ true))

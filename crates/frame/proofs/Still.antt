@@ -2,17 +2,13 @@
 use mathlib.Core.Bool.{Bool, true, false, not}
 use mathlib.Core.Path.{_≡_, refl, sym, ap, ap₂, subst, _∙_}
 use mathlib.Core.Logic.{⊎-elim}
-use mathlib.Core.List.{List, [], _∷_, _++_, append-nil}
-use Prim.Native.Nat.{ℕ, zero, suc, _+_, _-_, _*_, _≤_, _<_}
+use mathlib.Core.List.{List, [], _∷_, _++_}
+use Prim.Native.Nat.{ℕ, suc, _+_, _-_, _≤_, _<_}
 use native.Mathlib.Omega.{arith}
 use lib.ListN.{length, getD, drop, length-drop}
 use lib.Seq.{getD-drop}
-use Rattle.lists.specs.Choice.{choose}
-use Rattle.lists.specs.Lists.{anyBelow}
 use Rattle.lists.proofs.Cases.{less, clash}
-use Rattle.lists.proofs.AnyLoop.{Refused}
 use Rattle.heartbeat.specs.declared.Heartbeat.{Heartbeat}
-use Rattle.heartbeat.specs.declared.Rank.{Rank}
 use Rattle.server.specs.declared.Role.{Role}
 use Rattle.server.specs.declared.Role.the-variants.{Down, Idle, Sync, Backup, Prospect, Primary}
 use Rattle.server.specs.declared.Event.{Event}
@@ -20,22 +16,17 @@ use Rattle.server.specs.declared.Event.the-variants.{Nothing}
 use Rattle.server.specs.declared.Period.{Period}
 use Rattle.server.specs.declared.Server.{Server}
 use Rattle.server.specs.declared.Timed.{Timed}
-use Rattle.server.specs.Server.{absent, cleared, sentAny, after, rankOf}
-use Rattle.server.specs.Hearing.{heard, hearsIn, attending}
+use Rattle.server.specs.Server.{absent, cleared, sentAny, after}
+use Rattle.hearing.specs.Hearing.{heard, hearsIn, attending}
 use Rattle.server.specs.Words.{said}
 use Rattle.server.specs.Timers.{timed}
 use Rattle.lines.specs.Lines.{linesOf}
 use Rattle.group.specs.declared.State.{State}
-use Rattle.group.specs.Table.{most}
-use Rattle.group.specs.Hearing.{place, inbox}
-use Rattle.group.specs.Frame.{heardAll, heardLines, timedLines, hearing, turned, turnLines, turnsLines, advanced}
-use Rattle.group.specs.Advance.{advancedBy}
-use Rattle.group.proofs.Places.{place-advanced, long-advanced}
-use Rattle.group.proofs.Laws.{rank-heard, rank-ticked}
-use Rattle.frame.specs.Words.{rankNumber}
-use Rattle.frame.specs.Answers.{stillIn, isStill}
-use Rattle.frame.specs.Steps.{Still, Ranked, anySent, ticked, tickLines, resting, Rests, AllRest}
-use Rattle.frame.proofs.Words.{not-so, not-some}
+use Rattle.group.specs.Hearing.{inbox}
+use Rattle.group.specs.Frame.{heardAll, heardLines, timedLines, hearing, turned, turnLines, turnsLines}
+use Rattle.places.specs.Roles.{stillIn, isStill}
+use Rattle.frame.specs.Steps.{Still, tickLines, resting, Rests, AllRest}
+use Rattle.places.proofs.Words.{not-so, not-some}
 use Rattle.frame.proofs.Quiet.{clear-already, rests-down, rests-idle, rests-sync, Resting}
 
 -- ---- the loop that finds the first place from which on all are still
@@ -167,18 +158,3 @@ module _ {l : List Server} {n : ℕ} (v : Still n l) (long : length l ≡ 16) (j
 
   pub ticks-early : (t : ℕ) (p : Period) → 0 < t → tickLines t p (drop j l) ≡ []
   ticks-early t p k = none-ticked t p (drop j l) k dropped
-
--- ---- frame after frame: the still stay as they are
-
-pub still-after : (k : ℕ) (c : State) {n : ℕ} → length (c .servers) ≡ 16 → Still n (c .servers) → Still n (advancedBy k c .servers)
-unfolding advancedBy
-still-after zero c long v = v
-still-after (suc k) c {n} long v =
-    still-after k (advanced c) (long-advanced c ∙ long)
-    (record {
-      few = v .few;
-      still =
-          λ i h g.
-          subst (λ (s : Server). isStill s ≡ true)
-          (sym (place-advanced c i (omega arith) ∙ still-turned (place c i) (v .still i h g) c (c .frame + 1) i (omega arith) .0)) (v .still i h g);
-    })

@@ -21,44 +21,13 @@ use Rattle.frame.specs.declared.Fared.{Fared}
 abbrev pub stateOf : ℕ → Period → List Server → List Bool → State
 stateOf t p l w = record { frame = t; period = p; servers = l; whole = w }
 
--- ---- roles
-
-abbrev pub isBackup : Role → Bool
-isBackup Down = false
-isBackup Idle = false
-isBackup Sync = false
-isBackup Backup = true
-isBackup Prospect = false
-isBackup Primary = false
-
-abbrev pub isPrimary : Role → Bool
-isPrimary Down = false
-isPrimary Idle = false
-isPrimary Sync = false
-isPrimary Backup = false
-isPrimary Prospect = false
-isPrimary Primary = true
-
--- in a role that neither hears nor has a timer, if nothing was sent
-abbrev pub stillIn : Role → Bool → Bool
-stillIn Down sent = not sent
-stillIn Idle sent = not sent
-stillIn Sync sent = not sent
-stillIn Backup sent = false
-stillIn Prospect sent = false
-stillIn Primary sent = false
-
--- it neither hears nor has a timer, and sent nothing
-abbrev pub isStill : Server → Bool
-isStill s = stillIn (s .role) (sentAny s)
-
 -- ---- a frame
 
 -- a frame of 32 bits that has a next one
 abbrev pub hasNext : State → Bool
 hasNext c = ltb (c .frame) 4294967295
 
--- the lines of the frame after c have room in d from the place `at` on
+-- there is a frame after c, and its lines have room in d from the place `at` on
 abbrev pub frameFits : State → List ℕ → ℕ → Bool
 frameFits c d at = hasNext c && fits d at (frameLines c)
 

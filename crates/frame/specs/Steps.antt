@@ -24,8 +24,9 @@ use Rattle.group.specs.Table.{most}
 use Rattle.group.specs.Hearing.{linkOf, isPlace}
 use Rattle.group.specs.Frame.{heardAll, heardLines, timedLines, advanced, frameLines}
 use Rattle.frame.specs.declared.Told.{Told}
-use Rattle.frame.specs.Words.{rankNumber, sendingNumber}
-use Rattle.frame.specs.Answers.{stateOf, isBackup, isPrimary, isStill}
+use Rattle.places.specs.Words.{rankNumber, sendingNumber}
+use Rattle.places.specs.Roles.{isBackup, isProspect, isStill}
+use Rattle.places.specs.Order.{comesBy, heardBy}
 
 -- ---- lines, written or only counted
 
@@ -42,23 +43,6 @@ pub record Out (wet : Bool) (d : List ℕ) (at : ℕ) (w : List ℕ) (r : ℕ) (
 pub record Hears (t : ℕ) (wet : Bool) (s : Server) (hs : List Heartbeat) (d : List ℕ) (at : ℕ) (r : Told) (d′ : List ℕ) : Type 0 where
   pub server : r .server ≡ heardAll t s hs
   pub out : Out wet d at (heardLines t s hs) (r .at) d′
-
-abbrev pub isProspect : Role → Bool
-isProspect Down = false
-isProspect Idle = false
-isProspect Sync = false
-isProspect Backup = false
-isProspect Prospect = true
-isProspect Primary = false
-
--- it hears, and has a timer
-abbrev pub takesPart : Role → Bool
-takesPart Down = false
-takesPart Idle = false
-takesPart Sync = false
-takesPart Backup = true
-takesPart Prospect = true
-takesPart Primary = true
 
 -- the prospect s is not below the rank r
 abbrev pub staysUnder : Server → ℕ → Bool
@@ -99,7 +83,7 @@ ticksIn Primary t p s = aged (s .beat) (beatLimit p) t
 
 -- ---- who does nothing until a verb
 
--- so does every place from n on
+-- every place from n on is still, n at most 16
 pub record Still (n : ℕ) (l : List Server) : Type 0 where
   pub few : n ≤ most
   pub still : (i : ℕ) → n ≤ i → i < most → isStill (getD l i absent) ≡ true
@@ -119,7 +103,7 @@ unfoldable pub sentBelow : List Server → ℕ → List ℕ
 sentBelow l zero = []
 sentBelow l (suc n) = sentBelow l n ++ choose (sentAny (getD l n absent)) (n ∷ []) []
 
--- a server with such numbers
+-- a server of the rank number r that sent what n says; its role and timers mean nothing
 abbrev pub senderOf : ℕ → ℕ → Server
 senderOf r n =
     record {
@@ -174,16 +158,6 @@ pub record Loud (l : List Server) (r : ℕ) : Type 0 where
   pub bound : (i : ℕ) → i < most → sendingNumber (getD l i absent) ≤ r
 
 -- ---- the look-up, over the numbers
-
-abbrev pub overBy : List ℕ → ℕ → ℕ → Bool
-overBy ranks a b = ltb (getD ranks b 0) (getD ranks a 0)
-
-abbrev pub comesBy : List ℕ → Bool → ℕ → ℕ → ℕ → Bool
-comesBy ranks heard last best i =
-    heard && (choose (isPlace last) (overBy ranks last i) true && choose (isPlace best) (overBy ranks i best) true)
-
-abbrev pub heardBy : List Bool → ℕ → ℕ → Bool
-heardBy w j i = not (eqb i j) && getD w (linkOf i j) false
 
 abbrev pub bestBy : List ℕ → List Bool → ℕ → ℕ → ℕ → List ℕ → ℕ
 bestBy ranks w j last best [] = best
@@ -280,13 +254,13 @@ resting s = record { server = s; silent = Nothing; beating = Nothing; rising = N
 pub record Rests (t : ℕ) (p : Period) (s : Server) (r : ℕ) : Type 0 where
   pub rests : (u : ℕ) → t < u → u < r → timed u p s ≡ resting s
 
--- of no server
+-- no timer of any server is due in that time
 pub record AllRest (t : ℕ) (p : Period) (l : List Server) (r : ℕ) : Type 0 where
   pub all : (i : ℕ) → i < most → Rests t p (getD l i absent) r
 
 -- ---- what fits
 
--- the most bytes that a frame can write where no number of what was sent is greater
+-- no frame writes more bytes where no number of what was sent is greater
 abbrev pub mostBytes : ℕ → ℕ
 mostBytes loud = 16 * (54 * (16 * (loud / 131072 + 2)) + 162)
 

@@ -15,7 +15,7 @@ ghost use lib.Dec.{leb, eqb};
 ghost use lib.ListN.{length, replicate, take, getD, set};
 ghost use Rattle.lists.specs.Choice.{choose};
 ghost use Rattle.lists.specs.Lists.{mapFrom};
-ghost use Rattle.server.specs.Server.{absent, setSilence, setBeat, oneMore, sendBeat, cleared, passOf, sentBy};
+ghost use Rattle.server.specs.Server.{absent, setSilence, cleared, passOf, sentBy};
 ghost use Rattle.server.specs.Verbs.{roleNumber};
 ghost use Rattle.server.specs.Words.{said};
 ghost use Rattle.server.specs.Timers.{aged, timed};
@@ -23,9 +23,12 @@ ghost use Rattle.lines.specs.Lines.{placeAfter, linesOf};
 ghost use Rattle.group.specs.Table.{placeIn};
 ghost use Rattle.group.specs.Hearing.{isPlace};
 ghost use Rattle.group.specs.Frame.{timedLines, frameLines};
-ghost use Rattle.frame.specs.Words.{roleOf, rankNumber, sendingNumber, serverOf, serversOf};
-ghost use Rattle.frame.specs.Answers.{stateOf, isBackup, isPrimary, isStill, Plays, Counts};
-ghost use Rattle.frame.specs.Steps.{Out, Hears, Does, isProspect, takesPart, staysUnder, heedsOnly, JustListens, onlyListens, senderOf, Ranked, Still, overBy, comesBy, bestIn, Near, inboxBy, Deaf, clearing, Listed, Numbers, Sends, Lists, Turns, ticksIn, Runs, TicksAt, TicksAll, Loud, mostBytes, HeardAlso, Hearers, clamped};
+ghost use Rattle.places.specs.Words.{roleOf, rankNumber, sendingNumber, serverOf, serversOf};
+ghost use Rattle.places.specs.Roles.{isBackup, isPrimary, isStill};
+ghost use Rattle.frame.specs.Answers.{stateOf, Plays, Counts};
+ghost use Rattle.places.specs.Roles.{isProspect, takesPart};
+ghost use Rattle.places.specs.Order.{overBy, comesBy};
+ghost use Rattle.frame.specs.Steps.{Out, Hears, Does, staysUnder, heedsOnly, JustListens, onlyListens, senderOf, Ranked, Still, bestIn, Near, inboxBy, Deaf, clearing, Listed, Numbers, Sends, Lists, Turns, ticksIn, Runs, TicksAt, TicksAll, Loud, mostBytes, HeardAlso, Hearers, clamped};
 
 // The lines of an event, written or only counted.
 fn say_event(out: &mut [u8], wet: bool, at: usize, frame: u32, identity: u16, event: Event) -> usize
@@ -50,7 +53,7 @@ struct Told {
 fn hear_one(s: Server, frame: u32, h: Heartbeat, out: &mut [u8], wet: bool, at: usize) -> Told
     ensures { λ r. ⌜ Hears frame wet s (h ∷ []) (now (out .entry)) at r (now (out .exit)) ⌝ }
 {
-    let heard = s.hear(frame, h);
+    let heard = hearing::hear(s, frame, h);
     let next = heard.server;
     let event = heard.event;
     let after = say_event(out, wet, at, frame, s.identity, event);
@@ -128,25 +131,12 @@ fn hear_each(s: Server, frame: u32, sender: Server, out: &mut [u8], wet: bool, a
     hear_pass(b.server, frame, sender, out, wet, b.at)
 }
 
-pub fn is_backup(role: Role) -> bool
-    ensures { λ r. ⌜ r ≡ isBackup role ⌝ }
-{
-    match role {
-        Role::Down => false,
-        Role::Idle => false,
-        Role::Sync => false,
-        Role::Backup => true,
-        Role::Prospect => false,
-        Role::Primary => false,
-    }
-}
-
 // A backup that hears plain beats only says nothing.
 fn only_listens(s: Server, sender: Server) -> bool
     ensures { λ r. ⌜ r ≡ onlyListens s sender ⌝ }
 {
     let role = s.role;
-    is_backup(role) & ((sender.beats != 0) & (!sender.reveal & (sender.pass == 0)))
+    places::is_backup(role) & ((sender.beats != 0) & (!sender.reveal & (sender.pass == 0)))
 }
 
 fn run_timers(s: Server, frame: u32, period: Period, out: &mut [u8], wet: bool, at: usize) -> Told
@@ -166,44 +156,15 @@ fn run_timers(s: Server, frame: u32, period: Period, out: &mut [u8], wet: bool, 
     }
 }
 
-fn one_more(n: u8) -> u8
-    ensures { λ r. ⌜ r ≡ oneMore n ⌝ }
-{
-    if n < 15 { n + 1 } else { 15 }
-}
-
-// A beat sent, and the beat timer set.
-fn beaten(s: Server, frame: u32) -> Server
-    ensures { λ r. ⌜ r ≡ sendBeat (setBeat frame s) ⌝ }
-{
-    let mut next = s;
-    next.beat = frame;
-    next.beats = one_more(s.beats);
-    next
-}
-
-pub fn is_primary(role: Role) -> bool
-    ensures { λ r. ⌜ r ≡ isPrimary role ⌝ }
-{
-    match role {
-        Role::Down => false,
-        Role::Idle => false,
-        Role::Sync => false,
-        Role::Backup => false,
-        Role::Prospect => false,
-        Role::Primary => true,
-    }
-}
-
 // The timers of a server of which one is due: a primary beats.
 fn run_due(s: Server, frame: u32, period: Period, out: &mut [u8], wet: bool, at: usize) -> Told
     requires { ⌜ ticksIn (s .role) frame period s ≡ Bool.true ⌝ }
     ensures { λ r. ⌜ Does wet (timed frame period s .server) (timedLines frame (s .identity) (timed frame period s)) (now (out .entry)) at r (now (out .exit)) ⌝ }
 {
     let role = s.role;
-    if is_primary(role) {
+    if places::is_primary(role) {
         let after = lines::say(out, wet, at, frame, s.identity, Said::One(Word::Beat));
-        let next = beaten(s, frame);
+        let next = s.after(frame, Event::Beat);
         Told {
             server: next,
             at: after,
@@ -215,178 +176,13 @@ fn run_due(s: Server, frame: u32, period: Period, out: &mut [u8], wet: bool, at:
 
 // ---- servers as numbers
 
-pub fn role_number(role: Role) -> u32
-    ensures { λ r. ⌜ r ≡ roleNumber role ⌝ }
-{
-    match role {
-        Role::Down => 0,
-        Role::Idle => 1,
-        Role::Sync => 2,
-        Role::Backup => 3,
-        Role::Prospect => 4,
-        Role::Primary => 5,
-    }
-}
-
-fn role_of(n: u32) -> Role
-    ensures { λ r. ⌜ r ≡ roleOf n ⌝ }
-{
-    match n {
-        0 => Role::Down,
-        1 => Role::Idle,
-        2 => Role::Sync,
-        3 => Role::Backup,
-        4 => Role::Prospect,
-        _ => Role::Primary,
-    }
-}
-
-// The greater the number, the higher the server.
-fn rank_number(s: Server) -> u32
-    ensures { λ r. ⌜ (r ≡ rankNumber s) × ((s .identity < 65536) × (s .priority < 256)) ⌝ }
-{
-    (s.priority as u32) * 65536 + (s.identity as u32)
-}
-
-fn flag(set: bool) -> u32
-    ensures { λ r. ⌜ r ≡ choose set 1 0 ⌝ }
-{
-    if set { 1 } else { 0 }
-}
-
-// 0 where nothing was sent.
-fn sending_number(s: Server) -> u32
-    ensures { λ r. ⌜ (r ≡ sendingNumber s) × ((s .beats < 256) × (s .pass < 65536)) ⌝ }
-{
-    ((s.beats as u32) * 2 + flag(s.reveal)) * 65536 + (s.pass as u32)
-}
-
-fn server_of(head: u32, silence: u32, beat: u32, prospect: u32, sending: u32) -> Server
-    ensures { λ r. ⌜ r ≡ serverOf head silence beat prospect sending ⌝ }
-{
-    Server {
-        identity: (head % 65536) as u16,
-        priority: (head / 65536 % 256) as u8,
-        role: role_of(head / 16777216),
-        silence,
-        beat,
-        prospect,
-        beats: (sending / 131072 % 256) as u8,
-        reveal: sending / 65536 % 2 == 1,
-        pass: (sending % 65536) as u16,
-    }
-}
-
-// The server of place i.
-fn server_at(words: &[u32; 80], i: usize) -> Server
-    requires { ⌜ i < 16 ⌝ }
-    ensures { λ r. ⌜ r ≡ getD (serversOf (now (words .entry))) i absent ⌝ }
-{
-    let k = 5 * i;
-    server_of(
-        words[k],
-        words[k + 1],
-        words[k + 2],
-        words[k + 3],
-        words[k + 4],
-    )
-}
-
-// The server of place i replaced.
-fn store(words: &mut [u32; 80], i: usize, s: Server)
-    requires { ⌜ (length (now words) ≡ 80) × (i < 16) ⌝ }
-    ensures { λ _. ⌜ (length (now (words .exit)) ≡ 80) × (serversOf (now (words .exit)) ≡ set (serversOf (now (words .entry))) i s) ⌝ }
-{
-    let k = 5 * i;
-    let role = s.role;
-    let head = role_number(role) * 16777216 + rank_number(s);
-    let sending = sending_number(s);
-    words[k] = head;
-    words[k + 1] = s.silence;
-    words[k + 2] = s.beat;
-    words[k + 3] = s.prospect;
-    words[k + 4] = sending;
-}
-
-// The servers as numbers.
-pub fn words_of(servers: [Server; 16]) -> [u32; 80]
-    ensures { λ r. ⌜ serversOf r ≡ servers ⌝ }
-{
-    let mut words: [u32; 80] = [0; 80];
-    let mut i: usize = 0;
-    while i < 16 {
-        store(&mut words, i, servers[i]);
-        i += 1;
-    }
-    words
-}
-
-// The servers of the numbers.
-pub fn servers_of(words: &[u32; 80]) -> [Server; 16]
-    ensures { λ r. ⌜ r ≡ serversOf (now (words .entry)) ⌝ }
-{
-    let nobody = Server::absent();
-    let mut servers = [nobody; 16];
-    let mut i: usize = 0;
-    while i < 16 {
-        let s = server_at(words, i);
-        servers[i] = s;
-        i += 1;
-    }
-    servers
-}
-
-// The server of place i; nobody beyond the last place.
-pub fn server(words: &[u32; 80], i: usize) -> Server
-    ensures { λ r. ⌜ r ≡ getD (serversOf (now (words .entry))) i absent ⌝ }
-{
-    if i < Table::SERVERS {
-        server_at(words, i)
-    } else {
-        Server::absent()
-    }
-}
-
-// The server of place i replaced; nothing beyond the last place. `held` is what the numbers are: passed by value, it has their length.
-fn put_held(words: &mut [u32; 80], held: [u32; 80], i: usize, s: Server)
-    requires { ⌜ now words ≡ held ⌝ }
-    ensures { λ _. ⌜ serversOf (now (words .exit)) ≡ set (serversOf (now (words .entry))) i s ⌝ }
-{
-    if i < Table::SERVERS {
-        store(words, i, s);
-    }
-}
-
-// The server of place i replaced; nothing beyond the last place.
-pub fn put(words: &mut [u32; 80], i: usize, s: Server)
-    ensures { λ _. ⌜ serversOf (now (words .exit)) ≡ set (serversOf (now (words .entry))) i s ⌝ }
-{
-    let held = *words;
-    put_held(words, held, i, s);
-}
-
-// The place of an identity; beyond the last place where there is none. Of 0 the first empty place.
-pub fn place_in(words: &[u32; 80], identity: u16) -> usize
-    ensures { λ r. ⌜ r ≡ placeIn (serversOf (now (words .entry))) identity ⌝ }
-{
-    let mut i: usize = 0;
-    while i < Table::SERVERS {
-        let s = server_at(words, i);
-        if s.identity == identity {
-            return i;
-        }
-        i += 1;
-    }
-    i
-}
-
 fn ranks_of(words: &[u32; 80]) -> [u32; 16]
     ensures { λ r. ⌜ Ranked r (serversOf (now (words .entry))) ⌝ }
 {
     let mut ranks: [u32; 16] = [0; 16];
     let mut i: usize = 0;
-    while i < 16 {
-        let rank = rank_number(server_at(words, i));
+    while i < Table::SERVERS {
+        let rank = places::rank_number(places::server(words, i));
         ranks[i] = rank;
         i += 1;
     }
@@ -395,35 +191,13 @@ fn ranks_of(words: &[u32; 80]) -> [u32; 16]
 
 // ---- who does nothing until a verb
 
-// Hears, and has a timer.
-fn takes_part(role: Role) -> bool
-    ensures { λ r. ⌜ r ≡ takesPart role ⌝ }
-{
-    match role {
-        Role::Down => false,
-        Role::Idle => false,
-        Role::Sync => false,
-        Role::Backup => true,
-        Role::Prospect => true,
-        Role::Primary => true,
-    }
-}
-
-// Neither hears nor has a timer, and sent nothing.
-pub fn is_still(s: Server) -> bool
-    ensures { λ r. ⌜ r ≡ isStill s ⌝ }
-{
-    let role = s.role;
-    !takes_part(role) & !s.sent_any()
-}
-
 // From this place on, all are still: they are left out of every loop.
 fn still_from(words: &[u32; 80]) -> usize
     ensures { λ r. ⌜ Still r (serversOf (now (words .entry))) ⌝ }
 {
-    let mut n: usize = 16;
+    let mut n: usize = Table::SERVERS;
     while n > 0 {
-        if !is_still(server_at(words, n - 1)) {
+        if !places::is_still(places::server(words, n - 1)) {
             return n;
         }
         n -= 1;
@@ -452,7 +226,7 @@ fn list_senders(
     let mut count: usize = 0;
     let mut i: usize = 0;
     while i < n {
-        let sending = sending_number(server_at(words, i));
+        let sending = places::sending_number(places::server(words, i));
         sendings[i] = sending;
         places[count] = i;
         count += one_if(sending);
@@ -479,42 +253,6 @@ fn sender(rank: u32, sending: u32) -> Server
     }
 }
 
-// Place i comes after the place last.
-fn under_last(ranks: &[u32; 16], last: usize, i: usize) -> bool
-    requires { ⌜ i < 16 ⌝ }
-    ensures { λ r. ⌜ r ≡ choose (isPlace last) (overBy (now (ranks .entry)) last i) Bool.true ⌝ }
-{
-    if last < 16 {
-        ranks[last] > ranks[i]
-    } else {
-        true
-    }
-}
-
-// Place i comes before the best so far.
-fn over_best(ranks: &[u32; 16], best: usize, i: usize) -> bool
-    requires { ⌜ i < 16 ⌝ }
-    ensures { λ r. ⌜ r ≡ choose (isPlace best) (overBy (now (ranks .entry)) i best) Bool.true ⌝ }
-{
-    if best < 16 {
-        ranks[i] > ranks[best]
-    } else {
-        true
-    }
-}
-
-// Of place i, which is heard, and the best so far.
-fn better(ranks: &[u32; 16], last: usize, best: usize, i: usize) -> usize
-    requires { ⌜ i < 16 ⌝ }
-    ensures { λ r. ⌜ r ≡ choose (comesBy (now (ranks .entry)) Bool.true last best i) i best ⌝ }
-{
-    if under_last(ranks, last, i) & over_best(ranks, best, i) {
-        i
-    } else {
-        best
-    }
-}
-
 fn one_for(set: bool) -> usize
     ensures { λ r. ⌜ r ≡ choose set 1 0 ⌝ }
 {
@@ -537,7 +275,7 @@ fn list_heard(
     while k < count {
         let i = places[k];
         near[m] = i;
-        m += one_for((i != j) & whole[16 * i + j]);
+        m += one_for(places::hears(whole, i, j));
         k += 1;
     }
     m
@@ -548,26 +286,13 @@ fn next_sender(near: &[usize; 16], ranks: &[u32; 16], m: usize, last: usize) -> 
     requires { ⌜ Listed (now near) m ⌝ }
     ensures { λ r. ⌜ r ≡ bestIn (now (ranks .entry)) last 16 (take m (now (near .entry))) ⌝ }
 {
-    let mut best: usize = 16;
+    let mut best: usize = Table::SERVERS;
     let mut k: usize = 0;
     while k < m {
-        best = better(ranks, last, best, near[k]);
+        best = places::better(ranks, last, best, near[k]);
         k += 1;
     }
     best
-}
-
-fn is_prospect(role: Role) -> bool
-    ensures { λ r. ⌜ r ≡ isProspect role ⌝ }
-{
-    match role {
-        Role::Down => false,
-        Role::Idle => false,
-        Role::Sync => false,
-        Role::Backup => false,
-        Role::Prospect => true,
-        Role::Primary => false,
-    }
 }
 
 // A prospect stays one whatever it hears of a sender of this rank, and of those below it.
@@ -575,7 +300,7 @@ fn stays(s: Server, rank: u32) -> bool
     ensures { λ r. ⌜ (r ≡ staysUnder s rank) × (s .identity < 65536) ⌝ }
 {
     let role = s.role;
-    is_prospect(role) & (rank <= rank_number(s))
+    places::is_prospect(role) & (rank <= places::rank_number(s))
 }
 
 // A backup only listens to a higher sender that passes to nobody.
@@ -583,7 +308,8 @@ fn heeds(s: Server, rank: u32, sending: u32) -> bool
     ensures { λ r. ⌜ (r ≡ heedsOnly s rank sending) × (s .identity < 65536) ⌝ }
 {
     let role = s.role;
-    is_backup(role) & ((rank > rank_number(s)) & ((sending != 0) & (sending % 65536 == 0)))
+    places::is_backup(role)
+        & ((rank > places::rank_number(s)) & ((sending != 0) & (sending % 65536 == 0)))
 }
 
 fn attend(s: Server, frame: u32) -> Server
@@ -637,11 +363,11 @@ fn hear_several(
     let m = list_heard(places, whole, &mut near, count, j);
     let mut now = s;
     let mut r = at;
-    let mut last: usize = 16;
+    let mut last: usize = Table::SERVERS;
     let mut k: usize = 0;
-    while k < 16 {
+    while k < Table::SERVERS {
         let i = next_sender(&near, ranks, m, last);
-        if i >= 16 {
+        if i >= Table::SERVERS {
             return Told { server: now, at: r };
         }
         if stays(now, ranks[i]) {
@@ -744,7 +470,7 @@ fn just_listens(
     if count == 1 {
         let i = places[0];
         let from = sender(ranks[i], sendings[i]);
-        ((i != j) & whole[16 * i + j])
+        places::hears(whole, i, j)
             & (only_listens(s, from) & !aged(frame, period.silence_limit(), frame))
     } else {
         false
@@ -758,8 +484,8 @@ fn hear_also(heard: [bool; 16], whole: &[bool; 256], i: usize) -> [bool; 16]
 {
     let mut next = heard;
     let mut j: usize = 0;
-    while j < 16 {
-        next[j] = heard[j] | ((i != j) & whole[16 * i + j]);
+    while j < Table::SERVERS {
+        next[j] = heard[j] | places::hears(whole, i, j);
         j += 1;
     }
     next
@@ -839,7 +565,7 @@ fn turn_of(
     ensures { λ r. ⌜ Turns (inboxBy (record { places = now (places .entry); ranks = now (ranks .entry); sendings = now (sendings .entry); count = count }) (now (whole .entry)) j) frame period wet s (now (out .entry)) at r (now (out .exit)) ⌝ }
 {
     let role = s.role;
-    if (heard[j] & takes_part(role)) | ticks(s, period, frame) {
+    if (heard[j] & places::takes_part(role)) | ticks(s, period, frame) {
         act(
             places,
             ranks,
@@ -936,7 +662,7 @@ fn turn_all(
     requires { ⌜ (before < 4294967295) × (Still n (serversOf (now words)) × (Hearers (now places) (now whole) count (now heard) × Lists (serversOf (now words)) (record { places = now places; ranks = now ranks; sendings = now sendings; count = count }))) ⌝ }
     ensures { λ r. ⌜ (length (now (words .exit)) ≡ 80) × Runs wet (stateOf before period (serversOf (now (words .entry))) (now (whole .entry))) (now (out .entry)) at (record { servers = serversOf (now (words .exit)); at = r }) (now (out .exit)) ⌝ }
 {
-    let servers = servers_of(words);
+    let servers = places::servers_of(words);
     let t = turned(
         servers,
         places,
@@ -953,7 +679,7 @@ fn turn_all(
         at,
     );
     let after = t.servers;
-    *words = words_of(after);
+    *words = places::words_of(after);
     t.at
 }
 
@@ -970,10 +696,10 @@ fn tick_at(
     requires { ⌜ (length (now words) ≡ 80) × (j < 16) ⌝ }
     ensures { λ r. ⌜ (length (now (words .exit)) ≡ 80) × TicksAt wet frame period (serversOf (now (words .entry))) j (now (out .entry)) at (record { servers = serversOf (now (words .exit)); at = r }) (now (out .exit)) ⌝ }
 {
-    let s = server_at(words, j);
+    let s = places::server(words, j);
     if ticks(s, period, frame) {
         let t = run_due(s, frame, period, out, wet, at);
-        store(words, j, t.server);
+        places::put(words, j, t.server);
         t.at
     } else {
         at
@@ -1008,7 +734,7 @@ fn nobody_hears(heard: &[bool; 16]) -> bool
     ensures { λ r. ⌜ (r ≡ Bool.true → Deaf (now (heard .entry)) 16) ⌝ }
 {
     let mut j: usize = 0;
-    while j < 16 {
+    while j < Table::SERVERS {
         if heard[j] {
             return false;
         }
@@ -1068,7 +794,7 @@ fn loudest(words: &[u32; 80], n: usize) -> u32
     let mut most: u32 = 0;
     let mut i: usize = 0;
     while i < n {
-        let sending = sending_number(server_at(words, i));
+        let sending = places::sending_number(places::server(words, i));
         most = greater(most, sending);
         i += 1;
     }

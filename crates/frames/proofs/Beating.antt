@@ -1,46 +1,40 @@
 -- Beats of a calm group, written one after the other. Assumes nothing.
 use mathlib.Core.Bool.{Bool, true, false, not, _&&_, _||_}
-use mathlib.Core.Path.{_≡_, refl, sym, ap, ap₂, subst, _∙_}
-use mathlib.Core.Logic.{_⊎_, inl, inr, ⊎-elim}
-use mathlib.Core.List.{List, [], _∷_, _++_, append-nil, append-assoc}
+use mathlib.Core.Path.{_≡_, refl, sym, ap, _∙_}
+use mathlib.Core.Logic.{inl, inr}
+use mathlib.Core.List.{List, _++_, append-nil, append-assoc}
 use Prim.Native.Nat.{ℕ, zero, suc, _+_, _-_, _*_, _≤_, _<_}
 use native.Mathlib.Omega.{arith}
-use native.Mathlib.Numerals.{add-one}
-use borrow.Author.Tests.{leb-true, ltb-true, eqb-true, ne-eqb}
+use borrow.Author.Tests.{leb-true, ltb-true, ne-eqb}
 use lib.Dec.{ltb, leb, eqb}
 use lib.ListN.{length, getD, length-append}
-use Rattle.lists.specs.Choice.{choose}
 use Rattle.lists.specs.Lists.{mapFrom}
 use Rattle.lists.specs.Splice.{splice}
 use Rattle.lists.proofs.Splicing.{splice-none}
-use Rattle.lists.proofs.Cases.{less, on, tested, clash, and-true, fst-true, snd-true, or-true, other}
+use Rattle.lists.proofs.Cases.{less, on, tested, clash, and-true, fst-true, snd-true, or-true}
 use Rattle.server.specs.declared.Role.{Role}
 use Rattle.server.specs.declared.Role.the-variants.{Down, Idle, Sync, Backup, Prospect, Primary}
 use Rattle.server.specs.declared.Said.the-variants.{One}
 use Rattle.server.specs.declared.Word.the-variants.{Beat}
 use Rattle.server.specs.declared.Period.{Period}
 use Rattle.server.specs.declared.Server.{Server}
-use Rattle.server.specs.Period.{silenceLimit, beatLimit}
-use Rattle.server.specs.Server.{absent, sentAny}
+use Rattle.server.specs.Period.{beatLimit}
+use Rattle.server.specs.Server.{absent}
 use Rattle.server.specs.Words.{wordBytes}
 use Rattle.lines.specs.Lines.{linesOf, Says}
 use Rattle.lines.proofs.Pieces.{line-long}
-use Rattle.group.specs.declared.State.{State}
 use Rattle.group.specs.Hearing.{linkOf}
-use Rattle.group.specs.Frame.{movedTo}
-use Rattle.group.specs.Advance.{advancedBy, linesBy}
+use Rattle.group.specs.Advance.{linesBy}
 use Rattle.frames.specs.declared.Pulse.{Pulse}
-use Rattle.frames.specs.declared.Stretched.{Stretched}
-use Rattle.frame.specs.Answers.{isPrimary, stillIn, isStill, stateOf}
-use Rattle.frame.specs.Steps.{Out, Still, Loud, NotDue}
+use Rattle.places.specs.Roles.{isPrimary}
+use Rattle.frame.specs.Answers.{stateOf}
+use Rattle.frame.specs.Steps.{Loud, NotDue}
 use Rattle.frames.specs.Steps.{pulsed, Waits, AllWait, Calm, beatLines, Beats, Stretches}
 use Rattle.frame.proofs.Writing.{chain, out-as, start, says-out, after-fits}
 use Rattle.frame.proofs.Quiet.{due-before, due-from, unsent}
 use Rattle.frame.proofs.Loud.{loud-quiet}
 use Rattle.frame.proofs.Bound.{line-most}
-use Rattle.frames.proofs.Playing.{jump-quiet}
-use Rattle.frames.proofs.Fitting.{stretch-jump}
-use Rattle.frames.proofs.Pulsing.{still-no-backup, quiet, all-rest, Rounds, rounds}
+use Rattle.frames.proofs.Pulsing.{rounds}
 
 -- ---- who is calm
 
@@ -187,10 +181,3 @@ module _ (p : Period) (w : List Bool) (l : List Server) (b t f target : ℕ) (ro
             some = λ z. omega (arith, k .ends);
             stop = λ z. absurd (clash z refl);
           }
-
-  -- none up to the target
-  pub beats-hop : {d : List ℕ} {at : ℕ} → at ≤ length d → t < target → target < f → Stretches (stateOf t p l w) target d at l (record { frame = target; at = at; full = false }) d
-  beats-hop h g k =
-      stretch-jump (stateOf t p l w)
-      (jump-quiet p l (quiet p w l b t f room v) room (all-rest p w l b t f room v) (record { from = omega arith; to = omega arith; early = inr k }))
-      h g (omega arith)

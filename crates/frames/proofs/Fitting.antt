@@ -23,15 +23,16 @@ use Rattle.group.specs.Advance.{advancedBy, linesBy, fitting, framesWithin, wit
 use Rattle.group.specs.Answers.{Gives}
 use Rattle.group.proofs.Places.{frame-after}
 use Rattle.group.proofs.Answering.{is-long, gives-refused, gives-so}
-use Rattle.frame.specs.Words.{serversOf}
+use Rattle.places.specs.Words.{serversOf}
 use Rattle.frames.specs.declared.Stretched.{Stretched}
 use Rattle.frame.specs.declared.Fared.{Fared}
 use Rattle.frame.specs.Answers.{stateOf, frameFits, Plays}
 use Rattle.frame.specs.Steps.{Out}
 use Rattle.frames.specs.Steps.{Stepped, Jumps, Fares, Stretches, MovesWithin}
-use Rattle.frame.proofs.Words.{not-so, not-some}
+use Rattle.places.proofs.Words.{not-so, not-some}
 use Rattle.frame.proofs.Writing.{after-fits, start, chain, out-as}
-use Rattle.frames.proofs.Playing.{advanced-add, lines-add, one-step, no-step, jumped}
+use Rattle.group.proofs.Adding.{advanced-add, lines-add}
+use Rattle.frames.proofs.Playing.{one-step, no-step, jumped}
 
 -- ---- the number of frames that fit
 

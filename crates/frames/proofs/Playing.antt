@@ -1,10 +1,9 @@
 -- Many frames. Assumes nothing.
-use mathlib.Core.Bool.{Bool, true, false}
+use mathlib.Core.Bool.{Bool, false}
 use mathlib.Core.Path.{_≡_, refl, sym, ap, ap₂, subst, _∙_}
 use mathlib.Core.Logic.{_⊎_, inl, inr, ⊎-elim}
-use mathlib.Core.List.{List, [], _∷_, _++_, append-assoc, append-nil}
-use Prim.Native.Nat.{ℕ, zero, suc, _+_, _-_, _≤_, _<_}
-use native.Mathlib.Nat.{zero-add, suc-add}
+use mathlib.Core.List.{List, _++_, append-nil}
+use Prim.Native.Nat.{ℕ, _+_, _-_, _≤_, _<_}
 use native.Mathlib.Omega.{arith}
 use borrow.Author.Tests.{lt-ltb, le-ltb}
 use lib.Dec.{ltb}
@@ -20,20 +19,9 @@ use Rattle.frame.specs.Answers.{stateOf, Counts}
 use Rattle.frame.specs.Steps.{Out, anySent, AllRest}
 use Rattle.frames.specs.Steps.{Stepped, Before, Steps, Jumps, Goes}
 use Rattle.group.proofs.Places.{frame-after}
+use Rattle.group.proofs.Adding.{advanced-add, lines-add}
 use Rattle.frame.proofs.Writing.{Toward, start, begin, turn, finish}
 use Rattle.frame.proofs.Quiet.{skip}
-
-pub advanced-add : (k m : ℕ) (c : State) → advancedBy (k + m) c ≡ advancedBy m (advancedBy k c)
-unfolding advancedBy
-advanced-add zero m c = ap (λ (n : ℕ). advancedBy n c) (zero-add m)
-advanced-add (suc k) m c = ap (λ (n : ℕ). advancedBy n c) (suc-add k m) ∙ advanced-add k m (advanced c)
-
-pub lines-add : (k m : ℕ) (c : State) → linesBy (k + m) c ≡ linesBy k c ++ linesBy m (advancedBy k c)
-unfolding advancedBy linesBy
-lines-add zero m c = ap (λ (n : ℕ). linesBy n c) (zero-add m)
-lines-add (suc k) m c =
-    ap (λ (n : ℕ). linesBy n c) (suc-add k m) ∙ ap (λ (l : List ℕ). frameLines c ++ l) (lines-add k m (advanced c))
-    ∙ sym (append-assoc (frameLines c) (linesBy k (advanced c)) _)
 
 -- ---- steps
 

@@ -1,17 +1,17 @@
 -- A calm group, beat by beat. Assumes nothing.
-use mathlib.Core.Bool.{Bool, true, false, not, _&&_, _||_}
-use mathlib.Core.Path.{_≡_, refl, sym, ap, ap₂, subst, _∙_}
-use mathlib.Core.Logic.{_⊎_, inl, inr, ⊎-elim}
+use mathlib.Core.Bool.{Bool, true, false, not, _&&_}
+use mathlib.Core.Path.{_≡_, refl, sym, ap, ap₂, _∙_}
+use mathlib.Core.Logic.{inl, inr}
 use mathlib.Core.List.{List, [], _∷_, _++_, append-nil}
 use Prim.Native.Nat.{ℕ, zero, suc, _+_, _-_, _*_, _≤_, _<_}
 use native.Mathlib.Omega.{arith}
-use borrow.Author.Tests.{lt-ltb, le-ltb, eq-eqb, ne-eqb, eqb-true}
-use lib.Dec.{ltb, eqb}
+use borrow.Author.Tests.{lt-ltb, eq-eqb, ne-eqb}
+use lib.Dec.{eqb}
 use lib.ListN.{length, getD, set, length-set}
 use lib.Seq.{getD-set-same, getD-set-other, ext-getD}
 use Rattle.lists.specs.Choice.{choose}
 use Rattle.lists.specs.Lists.{mapFrom, anyBelow}
-use Rattle.lists.proofs.Cases.{tested, less, equal, on, clash, chosen, other, and-true, and-left, and-right}
+use Rattle.lists.proofs.Cases.{less, equal, on, chosen, other, and-true, and-left, and-right}
 use Rattle.heartbeat.specs.declared.Heartbeat.{Heartbeat}
 use Rattle.heartbeat.proofs.Order.{irreflexive}
 use Rattle.server.specs.declared.Role.{Role}
@@ -24,23 +24,22 @@ use Rattle.server.specs.declared.Server.{Server}
 use Rattle.server.specs.declared.Timed.{Timed}
 use Rattle.server.specs.Server.{absent, rankOf, setSilence, setBeat, oneMore, sendBeat, cleared, sentBy, sentAny}
 use Rattle.server.specs.Period.{silenceLimit, beatLimit}
-use Rattle.server.specs.Words.{said}
 use Rattle.server.specs.Timers.{aged, timed}
 use Rattle.lines.specs.Lines.{linesOf}
 use Rattle.group.specs.declared.State.{State}
-use Rattle.group.specs.Table.{most}
-use Rattle.group.specs.Hearing.{place, linkOf, whole, hearsFrom, comes, over, nextSender, sendersAfter, sentByAll, inbox}
-use Rattle.group.specs.Frame.{heardAll, heardLines, timedLines, hearing, turned, turnLines, turnsLines, movedTo, advanced, frameLines}
+use Rattle.group.specs.Hearing.{place, linkOf, hearsFrom, comes, nextSender, sendersAfter, sentByAll, inbox}
+use Rattle.group.specs.Frame.{heardAll, heardLines, timedLines, hearing, turned, turnLines, turnsLines, advanced, frameLines}
 use Rattle.group.specs.Advance.{advancedBy, linesBy}
 use Rattle.group.proofs.Places.{map-at, length-from, place-advanced, long-advanced}
-use Rattle.frame.specs.Answers.{isBackup, isPrimary, stillIn, isStill, stateOf}
-use Rattle.frame.specs.Steps.{sentBelow, onlyListens, anySent, ticksIn, ticked, tickLines, resting, NotDue, Rests, AllRest}
+use Rattle.places.specs.Roles.{isBackup, isPrimary, stillIn, isStill}
+use Rattle.frame.specs.Answers.{stateOf}
+use Rattle.frame.specs.Steps.{sentBelow, onlyListens, anySent, ticksIn, ticked, tickLines, resting, AllRest}
 use Rattle.frames.specs.Steps.{pulsed, Listens, Calm, beatLines}
 use Rattle.frame.proofs.Quiet.{due-from, no-timer, rests-backup, rests-primary, primary-beats, clear-already, ticks-frame, skip}
 use Rattle.frame.proofs.Hearings.{just-listens}
 use Rattle.frame.proofs.Lookup.{among-sent, bestOf, some-after, none-after}
-use Rattle.frame.proofs.Still.{still-rests, still-turned, still-unsent}
-use Rattle.frames.proofs.Playing.{advanced-add, lines-add}
+use Rattle.frame.proofs.Still.{still-rests, still-turned}
+use Rattle.group.proofs.Adding.{advanced-add, lines-add}
 
 -- ---- who is heard where one place sent
 

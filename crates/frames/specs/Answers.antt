@@ -7,7 +7,7 @@ use Rattle.group.specs.Answers.{Gives}
 use Rattle.group.specs.Frame.{movedTo}
 use Rattle.frames.specs.declared.Advance.{Advance}
 use Rattle.frames.specs.declared.Ran.{Ran}
-use Rattle.frame.specs.Words.{serversOf}
+use Rattle.places.specs.Words.{serversOf}
 
 -- an advance of the channel c with the lent slice d: its answer, and the slice afterwards. Period and links stay
 abbrev pub Advances : State → Outcome → List ℕ → Advance → List ℕ → Type 0

@@ -4,7 +4,7 @@ use mathlib.Core.Logic.{_⊎_}
 use mathlib.Core.Path.{_≡_}
 use mathlib.Core.List.{List, [], _++_}
 use Prim.Native.Nat.{ℕ, zero, suc, _+_, _-_, _*_, _<_, _≤_}
-use lib.Dec.{ltb, leb, eqb}
+use lib.Dec.{leb, eqb}
 use lib.ListN.{length, getD}
 use Rattle.lists.specs.Choice.{choose}
 use Rattle.server.specs.declared.Role.the-variants.{Backup, Primary}
@@ -20,7 +20,8 @@ use Rattle.group.specs.Table.{most}
 use Rattle.group.specs.Hearing.{linkOf}
 use Rattle.group.specs.Frame.{movedTo, frameLines}
 use Rattle.group.specs.Advance.{advancedBy, linesBy, framesWithin}
-use Rattle.frame.specs.Answers.{stateOf, isBackup, isStill}
+use Rattle.places.specs.Roles.{isBackup, isStill}
+use Rattle.frame.specs.Answers.{stateOf}
 use Rattle.frame.specs.Steps.{Out, NotDue}
 use Rattle.frames.specs.declared.Stretched.{Stretched}
 use Rattle.frames.specs.declared.Pulse.{Pulse}

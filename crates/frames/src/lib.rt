@@ -16,8 +16,9 @@ ghost use Rattle.lists.specs.Lists.{mapFrom};
 ghost use Rattle.server.specs.Period.{beatLimit};
 ghost use Rattle.server.specs.Server.{absent};
 ghost use Rattle.group.specs.Advance.{linesBy, timeGoes, withinGoes};
-ghost use Rattle.frame.specs.Words.{sendingNumber, serversOf};
-ghost use Rattle.frame.specs.Answers.{stateOf, isPrimary};
+ghost use Rattle.places.specs.Words.{sendingNumber, serversOf};
+ghost use Rattle.places.specs.Roles.{isPrimary};
+ghost use Rattle.frame.specs.Answers.{stateOf};
 ghost use Rattle.frame.specs.Steps.{Out, Loud, NotDue, Rests, AllRest};
 ghost use Rattle.frames.specs.Answers.{Advances, AdvancesIn};
 ghost use Rattle.frames.specs.Steps.{Before, Steps, Goes, Jumps, Fares, Stretches, MovesWithin, pulsed, Waits, AllWait, Calm, Beats};
@@ -69,7 +70,7 @@ fn next_due(words: &[u32; 80], period: Period, frame: u32) -> u32
     let mut first: u32 = 4294967295;
     let mut i: usize = 0;
     while i < 16 {
-        let s = frame::server(words, i);
+        let s = places::server(words, i);
         first = earlier(first, wakes(s, period, frame));
         i += 1;
     }
@@ -239,9 +240,9 @@ fn first_primary(words: &[u32; 80]) -> usize
 {
     let mut i: usize = 0;
     while i < 16 {
-        let s = frame::server(words, i);
+        let s = places::server(words, i);
         let role = s.role;
-        if frame::is_primary(role) {
+        if places::is_primary(role) {
             return i;
         }
         i += 1;
@@ -262,10 +263,10 @@ fn waits(s: Server, link: bool, period: Period, frame: u32, next: u64) -> bool
     ensures { λ r. ⌜ (r ≡ Bool.true → Waits period link frame next s) ⌝ }
 {
     let role = s.role;
-    if frame::is_backup(role) {
+    if places::is_backup(role) {
         link & sleeps(s.silence, period.silence_limit(), frame, next)
     } else {
-        frame::is_still(s)
+        places::is_still(s)
     }
 }
 
@@ -283,7 +284,7 @@ fn all_wait(
 {
     let mut i: usize = 0;
     while i < 16 {
-        let s = frame::server(words, i);
+        let s = places::server(words, i);
         let wait = waits(s, whole[16 * b + i], period, frame, next);
         if !wait & (i != b) {
             return false;
@@ -312,7 +313,7 @@ fn calm(words: &[u32; 80], whole: &[bool; 256], period: Period, silent: bool, fr
     if b >= 16 {
         return 16;
     }
-    let s = frame::server(words, b);
+    let s = places::server(words, b);
     let next = next_beat(s, period);
     if (next <= (frame as u64)) | (period.beat_limit() < 2) {
         return 16;
@@ -356,11 +357,11 @@ fn settle_at(words: &mut [u32; 80], i: usize, b: usize, last: u32)
     requires { ⌜ (length (now words) ≡ 80) × ((i < 16) × (last < 4294967295)) ⌝ }
     ensures { λ _. ⌜ (length (now (words .exit)) ≡ 80) × (serversOf (now (words .exit)) ≡ set (serversOf (now (words .entry))) i (pulsed b last i (getD (serversOf (now (words .entry))) i absent))) ⌝ }
 {
-    let s = frame::server(words, i);
+    let s = places::server(words, i);
     let role = s.role;
     if i == b {
         words[5 * i + 2] = last;
-    } else if frame::is_backup(role) {
+    } else if places::is_backup(role) {
         words[5 * i + 1] = last + 1;
     }
 }
@@ -392,7 +393,7 @@ fn beat_along(
     requires { ⌜ (length (now words) ≡ 80) × ((at ≤ length (now out)) × (((frame < target) × (start < target)) × (Jumps period (serversOf (now words)) frame target start × Calm period (now whole) (serversOf (now words)) b frame (getD (serversOf (now words)) b absent .beat + beatLimit period)))) ⌝ }
     ensures { λ r. ⌜ (length (now (words .exit)) ≡ 80) × Stretches (stateOf frame period (serversOf (now (words .entry))) (now (whole .entry))) target (now (out .entry)) at (serversOf (now (words .exit))) r (now (out .exit)) ⌝ }
 {
-    let s = frame::server(words, b);
+    let s = places::server(words, b);
     let first = next_beat(s, period);
     let m = beat_on(s.identity, period, first, target, out, at);
     if m.next > first {
@@ -514,7 +515,7 @@ fn rests(s: Server, period: Period, frame: u32, target: u32) -> bool
 {
     let next = target as u64;
     let role = s.role;
-    let n = frame::role_number(role);
+    let n = server::role_number(role);
     let silence = sleeps(s.silence, period.silence_limit(), frame, next);
     let beat = sleeps(s.beat, period.beat_limit(), frame, next);
     let prospect = sleeps(s.prospect, period.prospect_limit(), frame, next);
@@ -527,7 +528,7 @@ fn all_quiet(words: &[u32; 80], period: Period, frame: u32, target: u32) -> bool
 {
     let mut i: usize = 0;
     while i < 16 {
-        let s = frame::server(words, i);
+        let s = places::server(words, i);
         let quiet = sent_none(words, i) & rests(s, period, frame, target);
         if !quiet {
             return false;

@@ -14,7 +14,7 @@ use Rattle.server.specs.declared.Verb.{Verb}
 use Rattle.server.specs.declared.Server.{Server}
 use Rattle.server.specs.Period.{leastPeriod, greatestPeriod}
 use Rattle.server.specs.Server.{idle, cleared, after}
-use Rattle.server.specs.Hearing.{heard}
+use Rattle.hearing.specs.Hearing.{heard}
 use Rattle.server.specs.Timers.{timed}
 use Rattle.server.specs.Verbs.{roleNumber, verbAnswer, verbHappens}
 use Rattle.front.specs.declared.Front.{Front}

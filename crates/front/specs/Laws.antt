@@ -9,7 +9,7 @@ use Rattle.server.specs.declared.Event.the-variants.{Nothing}
 use Rattle.server.specs.declared.Verb.{Verb}
 use Rattle.server.specs.declared.Server.{Server}
 use Rattle.server.specs.Server.{cleared}
-use Rattle.server.specs.Hearing.{heard}
+use Rattle.hearing.specs.Hearing.{heard}
 use Rattle.server.specs.Timers.{timed}
 use Rattle.front.specs.declared.Front.{Front}
 use Rattle.front.specs.declared.TimedNow.{TimedNow}

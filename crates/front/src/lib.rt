@@ -128,7 +128,7 @@ impl Front {
         ensures { λ r. ⌜ r ≡ hearing self h ⌝ }
     {
         let was = self.server;
-        let heard = was.hear(self.frame, h);
+        let heard = hearing::hear(was, self.frame, h);
         let event = heard.event;
         let hearer = heard.server;
         let role = hearer.role;

@@ -12,7 +12,7 @@ use Rattle.heartbeat.specs.declared.Heartbeat.{Heartbeat}
 use Rattle.heartbeat.proofs.Order.{transitive, total}
 use Rattle.server.specs.declared.Server.{Server}
 use Rattle.server.specs.Server.{rankOf, plainOf, sentBy}
-use Rattle.server.specs.Hearing.{fromHigher, fromLower}
+use Rattle.hearing.specs.Hearing.{fromHigher, fromLower}
 use Rattle.server.proofs.Sent.{all-sent}
 use Rattle.group.specs.declared.State.{State}
 use Rattle.group.specs.Hearing.{place, hearsFrom, over, noPlace, nextSender, sendersAfter, sentByAll, senders, inbox}

@@ -25,7 +25,7 @@ use Rattle.server.specs.declared.Verb.the-variants.{Start, Ready, Unready, Pass
 use Rattle.server.specs.declared.Period.{Period}
 use Rattle.server.specs.declared.Server.{Server}
 use Rattle.server.specs.Server.{absent, rankOf, cleared, sentAny, after}
-use Rattle.server.specs.Hearing.{hearsIn, attending, heard}
+use Rattle.hearing.specs.Hearing.{hearsIn, attending, heard}
 use Rattle.server.specs.Timers.{silent, beating, rising, afterSilent, afterBeating, afterRising, timed}
 use Rattle.group.specs.declared.State.{State}
 use Rattle.group.specs.Outcome.{Outcome, numberIn, channelIn, writtenIn, sliceIn}

@@ -8,3 +8,4 @@ pub mod Inbox
 pub mod Heard
 pub mod Laws
 pub mod Opening
+pub mod Adding

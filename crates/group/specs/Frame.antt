@@ -6,7 +6,7 @@ use Rattle.heartbeat.specs.declared.Heartbeat.{Heartbeat}
 use Rattle.server.specs.declared.Server.{Server}
 use Rattle.server.specs.declared.Timed.{Timed}
 use Rattle.server.specs.Server.{cleared}
-use Rattle.server.specs.Hearing.{heard}
+use Rattle.hearing.specs.Hearing.{heard}
 use Rattle.server.specs.Timers.{timed}
 use Rattle.server.specs.Words.{said}
 use Rattle.group.specs.declared.State.{State}

@@ -38,7 +38,7 @@ noPlace = most
 abbrev pub isPlace : ℕ → Bool
 isPlace i = ltb i most
 
--- place i comes next after the place last, and before the best found so far
+-- place j hears place i, which comes after the place last and before the best found so far (16: none)
 unfoldable pub comes : State → ℕ → ℕ → ℕ → ℕ → Bool
 comes c j last best i =
     hearsFrom c j i && (choose (isPlace last) (over c last i) true && choose (isPlace best) (over c i best) true)

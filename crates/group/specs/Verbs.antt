@@ -30,7 +30,7 @@ inTable c i = isIn (c .servers) i
 unfoldable pub namesNobody : Verb → ℕ → ℕ → Bool
 namesNobody v a b = eqb a 0 || (paired v && eqb b 0)
 
--- "8. Identity not in the table, or both identities the same."
+-- not "8. Identity not in the table, or both identities the same."
 unfoldable pub known : State → Verb → ℕ → ℕ → Bool
 known c v a b = inTable c a && choose (paired v) (inTable c b && not (eqb a b)) true
 

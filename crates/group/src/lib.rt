@@ -44,15 +44,15 @@ pub struct Opened {
 fn place_in(servers: [Server; 16], identity: u16) -> usize
     ensures { λ r. ⌜ r ≡ placeIn servers identity ⌝ }
 {
-    let mut i = 0;
-    while i < Table::SERVERS {
-        let s = servers[i];
+    let mut place = 0;
+    while place < Table::SERVERS {
+        let s = servers[place];
         if s.identity == identity {
-            return i;
+            return place;
         }
-        i += 1;
+        place += 1;
     }
-    i
+    place
 }
 
 // One server, or none in an empty place.
@@ -68,7 +68,7 @@ fn count(servers: [Server; 16]) -> usize
 {
     let mut n: usize = 0;
     let mut i: usize = 0;
-    while i < 16 {
+    while i < Table::SERVERS {
         let s = servers[i];
         n += one(s);
         i += 1;
@@ -95,7 +95,7 @@ fn enter(servers: [Server; 16], new: Server) -> [Server; 16]
     let mut next = servers;
     let mut carried = new;
     let mut i: usize = 0;
-    while i < 16 {
+    while i < Table::SERVERS {
         let s = servers[i];
         let first = stands_before(carried, s);
         let entered = pick(first, carried, s);

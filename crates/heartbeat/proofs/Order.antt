@@ -1,13 +1,11 @@
 -- `higher` is strict and transitive, and of two different identities one is higher. What needs an order of servers goes by these
 -- laws and not by the text of `higher`. Assumes nothing.
-use mathlib.Core.Bool.{Bool, true, false}
-use mathlib.Core.Path.{_≡_, refl, sym, ap, _∙_}
+use mathlib.Core.Bool.{true, false}
+use mathlib.Core.Path.{_≡_, refl, sym, _∙_}
 use mathlib.Core.Logic.{_⊎_, inl, inr, ⊎-elim}
-use Prim.Native.Nat.{ℕ, _<_}
+use Prim.Native.Nat.{_<_}
 use native.Mathlib.Omega.{arith}
-use borrow.Author.Tests.{ltb-true, ltb-false, lt-ltb, le-ltb, eq-eqb, ne-eqb}
-use lib.Dec.{ltb, eqb}
-use Rattle.lists.specs.Choice.{choose}
+use borrow.Author.Tests.{ltb-true, lt-ltb, le-ltb, eq-eqb, ne-eqb}
 use Rattle.lists.proofs.Cases.{tested, less, equal, chosen, other}
 use Rattle.heartbeat.specs.declared.Rank.{Rank}
 use Rattle.heartbeat.specs.Rank.{higher}

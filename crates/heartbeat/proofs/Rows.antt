@@ -1,8 +1,7 @@
 -- D10, computed: `0 20 2 7` reads as Reveal set and is written `0 20 2 1`. Assumes nothing.
 use mathlib.Core.Bool.{true}
 use mathlib.Core.Path.{_≡_, refl}
-use mathlib.Core.List.{List, [], _∷_}
-use Prim.Native.Nat.{ℕ}
+use mathlib.Core.List.{[], _∷_}
 use Rattle.lists.specs.Choice.{choose}
 use Rattle.lists.specs.Lists.{splitOn, upTo}
 use Rattle.refusal.specs.Answer.{accepted, inTurn}

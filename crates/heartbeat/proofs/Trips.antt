@@ -1,5 +1,5 @@
 -- A heartbeat that is written reads back. Assumes nothing.
-use mathlib.Core.Bool.{true, not}
+use mathlib.Core.Bool.{not}
 use mathlib.Core.Path.{_≡_, refl, sym, ap, _∙_}
 use mathlib.Core.List.{List, [], _∷_, _++_, append-assoc}
 use Prim.Native.Nat.{ℕ, suc, _+_, _<_, _≤_}
@@ -20,7 +20,6 @@ use Rattle.text.specs.Number.{isDigit}
 use Rattle.text.specs.Line.{readLine, fields}
 use Rattle.text.proofs.Digits.{digits-few, digit-least}
 use Rattle.text.proofs.Trips.{all-digits, number-reads-back}
-use Rattle.heartbeat.specs.declared.Heartbeat.{Heartbeat}
 use Rattle.heartbeat.specs.Heartbeat.{isSet, readFields, readBody, readHeartbeat, revealWritten, heartbeatLine}
 use Rattle.heartbeat.specs.Trips.{HeartbeatReadsBack}
 

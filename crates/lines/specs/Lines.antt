@@ -11,7 +11,6 @@ use Rattle.refusal.specs.Answer.{numberOf}
 use Rattle.text.specs.Words.{bytes}
 use Rattle.text.specs.Digits.{digits}
 use Rattle.timecode.specs.Label.{label}
-use Rattle.server.specs.declared.Word.{Word}
 use Rattle.server.specs.declared.Said.{Said}
 use Rattle.server.specs.declared.Said.the-variants as says
 use Rattle.server.specs.Words.{wordBytes}

@@ -7,6 +7,7 @@ use Prim.Native.Nat.{ℕ, zero, suc, _+_, _<_, _≤_}
 use native.Mathlib.Nat.{not-suc-le-zero, le-of-suc-le-suc, eq-or-lt-of-le, le-antisymm}
 use native.Mathlib.Numerals.{add-one}
 use Rattle.lists.specs.Lists.{anyBelow}
+use Rattle.lists.proofs.Cases.{clash, refuted}
 
 or-right : (a b : Bool) → b ≡ true → (a || b) ≡ true
 or-right true b e = refl
@@ -26,6 +27,10 @@ found p (suc n) i h e =
     (λ q. or-right (anyBelow n p) (p n) (subst (λ (k : ℕ). p k ≡ true) q e))
     (λ l. or-left (anyBelow n p) (p n) (found p n i l e))
     (eq-or-lt-of-le (le-of-suc-le-suc h))
+
+-- where none passes, no number below the limit does
+pub none-below : (p : ℕ → Bool) (n i : ℕ) → anyBelow n p ≡ false → i < n → p i ≡ false
+none-below p n i e h = refuted (p i) (λ q. clash (found p n i h q) e)
 
 -- none below i passes, and i is at most n
 pub record Refused (p : ℕ → Bool) (n i : ℕ) : Type 0 where

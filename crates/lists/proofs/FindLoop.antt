@@ -1,6 +1,6 @@
 -- A loop that looks for the first of the n elements of l that passes the test p. Assumes nothing.
 --     begin: no turn made; miss: element i does not pass; hit: it does; none: the loop is over
-use mathlib.Core.Path.{_≡_, sym, ap, _∙_}
+use mathlib.Core.Path.{_≡_, ap}
 use mathlib.Core.Bool.{Bool, true, false}
 use mathlib.Core.List.{List, [], _∷_}
 use Prim.Native.Nat.{ℕ, zero, suc, _+_, _<_, _≤_}

@@ -7,4 +7,5 @@ pub mod FindLoop
 pub mod AnyLoop
 pub mod SameLoop
 pub mod CountLoop
+pub mod EachLoop
 pub mod Clear

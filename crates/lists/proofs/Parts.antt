@@ -10,8 +10,7 @@ use borrow.Author.Tests.{eq-eqb, ne-eqb}
 use lib.Dec.{eqb}
 use lib.ListN.{length, take, drop, getD, drop-of-length-le, length-drop}
 use lib.Seq.{drop-cons, take-all}
-use Rattle.lists.specs.Choice.{choose}
-use Rattle.lists.specs.Lists.{indexWhere, onFirst, splitOn, upTo}
+use Rattle.lists.specs.Lists.{onFirst, splitOn, upTo}
 use Rattle.lists.proofs.Cases.{equal, less, chosen, other}
 
 module _ (c : ℕ) where

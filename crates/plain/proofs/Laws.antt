@@ -10,7 +10,7 @@ use Rattle.server.specs.declared.Server.{Server}
 use Rattle.front.specs.declared.Front.{Front}
 use Rattle.group.specs.declared.Table.{Table}
 use Rattle.group.specs.declared.State.{State}
-use Rattle.frame.proofs.Words.{role-back}
+use Rattle.places.proofs.Words.{role-back}
 use Rattle.plain.specs.declared.PlainServer.{PlainServer}
 use Rattle.plain.specs.declared.PlainFront.{PlainFront}
 use Rattle.plain.specs.declared.PlainTable.{PlainTable}

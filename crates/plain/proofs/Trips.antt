@@ -19,11 +19,11 @@ use Rattle.server.specs.declared.Verb.the-variants.{Start, Ready, Unready, Pass
 use Rattle.server.specs.declared.Event.{Event}
 use Rattle.server.specs.declared.Event.the-variants.{Nothing, ToBackup, ToProspectBeat, ToProspectReveal, Lower, Beat, ToPrimary, ToSync, ToIdle, ToDown, Passed}
 use Rattle.server.specs.Verbs.{roleNumber, verbNumber}
-use Rattle.frame.specs.Words.{roleOf}
+use Rattle.places.specs.Words.{roleOf}
 use Rattle.plain.specs.Numbers.{isBit, isRole, isVerb, verbOf, isEvent, eventNumber, eventTo, eventOf, isRefusal, refusalOf}
 use Rattle.plain.specs.Plain.{bitOf, plainBit}
 use Rattle.plain.specs.Laws.{Back}
-use Rattle.plain.proofs.Below.{none-below}
+use Rattle.lists.proofs.AnyLoop.{none-below}
 
 -- ---- lists
 

@@ -16,7 +16,7 @@ use Rattle.server.specs.Period.{leastPeriod, greatestPeriod, shortest}
 abbrev pub isBit : ℕ → Bool
 isBit n = leb n 1
 
--- roles, 0 to 5: the number is `roleNumber` of the crate server, the role `roleOf` of the crate frame
+-- roles, 0 to 5: the number is `roleNumber` of the crate server, the role `roleOf` of the crate places
 abbrev pub isRole : ℕ → Bool
 isRole n = leb n 5
 

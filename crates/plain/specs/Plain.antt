@@ -13,7 +13,7 @@ use Rattle.server.specs.Verbs.{roleNumber}
 use Rattle.front.specs.declared.Front.{Front}
 use Rattle.group.specs.declared.Table.{Table}
 use Rattle.group.specs.declared.State.{State}
-use Rattle.frame.specs.Words.{roleOf}
+use Rattle.places.specs.Words.{roleOf}
 use Rattle.plain.specs.declared.PlainServer.{PlainServer}
 use Rattle.plain.specs.declared.PlainFront.{PlainFront}
 use Rattle.plain.specs.declared.PlainHeartbeat.{PlainHeartbeat}

@@ -8,15 +8,12 @@ use refusal::Verdict;
 use server::Event;
 use server::Period;
 use server::PeriodAnswer;
-use server::Role;
 use server::Server;
 use server::Verb;
 ghost use mathlib.Core.Path.{_≡_};
 ghost use mathlib.Core.List.{map};
 ghost use Rattle.lists.specs.Lists.{all};
 ghost use Rattle.refusal.specs.Answer.{ofVerdict};
-ghost use Rattle.server.specs.Verbs.{roleNumber};
-ghost use Rattle.frame.specs.Words.{roleOf};
 ghost use Rattle.plain.specs.Numbers.{isBit, isVerb, verbOf, isEvent, eventNumber, eventOf, isRefusal, refusalOf, isPeriod, periodOf};
 ghost use Rattle.plain.specs.Plain.{plainBit, bitOf, isServer, serverOf, plainServer, noServer, isFront, frontOf, plainFront, noFront, isHeartbeat, heartbeatOf, plainHeartbeat, noHeartbeat, isTable, tableOf, plainTable, isChannel, channelOf, plainChannel, noChannel};
 
@@ -81,34 +78,6 @@ fn is_bit(n: u8) -> bool
     ensures { λ r. ⌜ r ≡ isBit n ⌝ }
 {
     n <= 1
-}
-
-// The role of a number; from 5 on, primary.
-fn role_of(n: u8) -> Role
-    ensures { λ r. ⌜ r ≡ roleOf n ⌝ }
-{
-    match n {
-        0 => Role::Down,
-        1 => Role::Idle,
-        2 => Role::Sync,
-        3 => Role::Backup,
-        4 => Role::Prospect,
-        _ => Role::Primary,
-    }
-}
-
-// The number of a role.
-pub fn role_number(role: Role) -> u8
-    ensures { λ r. ⌜ r ≡ roleNumber role ⌝ }
-{
-    match role {
-        Role::Down => 0,
-        Role::Idle => 1,
-        Role::Sync => 2,
-        Role::Backup => 3,
-        Role::Prospect => 4,
-        Role::Primary => 5,
-    }
 }
 
 // Whether a number is a verb's.
@@ -249,7 +218,7 @@ pub fn is_server(p: PlainServer) -> bool
 pub fn server_of(p: PlainServer) -> Server
     ensures { λ r. ⌜ r ≡ serverOf p ⌝ }
 {
-    let role = role_of(p.role);
+    let role = places::role_of(p.role as u32);
     Server {
         identity: p.identity,
         priority: p.priority,
@@ -271,7 +240,7 @@ pub fn plain_server(s: Server) -> PlainServer
     PlainServer {
         identity: s.identity,
         priority: s.priority,
-        role: role_number(role),
+        role: server::role_number(role) as u8,
         silence: s.silence,
         beat: s.beat,
         prospect: s.prospect,

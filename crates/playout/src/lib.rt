@@ -221,7 +221,7 @@ fn hears(front: PlainFront, heartbeat: PlainHeartbeat) -> AfterHearing
         answer: FrontHeard {
             number: 0,
             event: plain::event_number(event),
-            role: plain::role_number(role) as u32,
+            role: server::role_number(role),
         },
     }
 }
@@ -260,7 +260,7 @@ fn ticks(front: PlainFront) -> AfterTimers
             silent: plain::event_number(silent),
             beating: plain::event_number(beating),
             rising: plain::event_number(rising),
-            role: plain::role_number(role) as u32,
+            role: server::role_number(role),
         },
     }
 }
@@ -317,7 +317,7 @@ fn acts(front: PlainFront, verb: u32, to: u16) -> AfterVerb
         answer: acted_as(
             plain::verdict_number(verdict),
             plain::event_number(event),
-            plain::role_number(role) as u32,
+            server::role_number(role),
         ),
     }
 }

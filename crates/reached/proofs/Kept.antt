@@ -18,7 +18,7 @@ use Rattle.server.specs.declared.Period.{Period}
 use Rattle.server.specs.declared.Server.{Server}
 use Rattle.server.specs.Period.{silenceLimit, prospectLimit, beatLimit}
 use Rattle.server.specs.Server.{rankOf, inRole, setSilence, setBeat, sendBeat, after}
-use Rattle.server.specs.Hearing.{fromHigher, fromLower, forThis, backupHears, prospectHears, primaryHears, attending, heard}
+use Rattle.hearing.specs.Hearing.{fromHigher, fromLower, forThis, backupHears, prospectHears, primaryHears, attending, heard}
 use Rattle.server.specs.Timers.{aged, timed}
 use Rattle.group.specs.Frame.{heardAll}
 use Rattle.group.proofs.Laws.{rank-one, rank-heard}

@@ -15,7 +15,7 @@ use Rattle.heartbeat.specs.Heartbeat.{isSet}
 use Rattle.heartbeat.proofs.Order.{irreflexive}
 use Rattle.server.specs.declared.Server.{Server}
 use Rattle.server.specs.Server.{rankOf, cleared, revealOf, sentAny}
-use Rattle.server.specs.Hearing.{fromHigher, fromLower}
+use Rattle.hearing.specs.Hearing.{fromHigher, fromLower}
 use Rattle.server.proofs.Sent.{some-sent, reveal-sent, reveal-any, sent-rank, sent-reveal, sent-unmarked}
 use Rattle.group.specs.declared.State.{State}
 use Rattle.group.specs.Hearing.{place, over, hearsFrom, inbox}

@@ -10,7 +10,7 @@ use Rattle.text.specs.Digits.{digits}
 use Rattle.timecode.specs.Label.{label}
 use Rattle.heartbeat.specs.Rank.{higher}
 use Rattle.server.specs.Server.{oneMore, sentBy, sentAny, after}
-use Rattle.server.specs.Hearing.{forThis, backupHears, prospectHears, primaryHears}
+use Rattle.hearing.specs.Hearing.{forThis, backupHears, prospectHears, primaryHears}
 use Rattle.server.specs.Timers.{afterSilent, afterBeating, afterRising}
 use Rattle.server.specs.Verbs.{from, enters, entering, verbHappens, verbAnswer}
 use Rattle.group.specs.declared.State.{State}

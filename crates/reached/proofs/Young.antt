@@ -15,7 +15,7 @@ use Rattle.server.specs.declared.Period.{Period}
 use Rattle.server.specs.declared.Server.{Server}
 use Rattle.server.specs.Period.{silenceLimit, prospectLimit, beatLimit}
 use Rattle.server.specs.Server.{after}
-use Rattle.server.specs.Hearing.{fromHigher, fromLower, forThis, backupHears, prospectHears, primaryHears, hearsIn, attending, heard}
+use Rattle.hearing.specs.Hearing.{fromHigher, fromLower, forThis, backupHears, prospectHears, primaryHears, hearsIn, attending, heard}
 use Rattle.group.specs.Frame.{heardAll}
 use Rattle.traces.specs.Trace.{isActive, isBeating}
 use Rattle.traces.proofs.Ways as ways

@@ -6,7 +6,7 @@ use mathlib.Core.Logic.{⊎-elim}
 use Prim.Native.Nat.{ℕ, _<_}
 use native.Mathlib.Omega.{arith}
 use borrow.Author.Tests.{eq-eqb, ne-eqb}
-use lib.Dec.{eqb, lit<}
+use lib.Dec.{lit<}
 use Rattle.lists.specs.Choice.{choose}
 use Rattle.lists.proofs.Cases.{equal, chosen, other}
 use Rattle.refusal.specs.declared.Refusal.{Refusal}

@@ -1,6 +1,5 @@
 pub mod Period
 pub mod Server
-pub mod Hearing
 pub mod Timers
 pub mod Verbs
 pub mod Words

@@ -16,7 +16,8 @@ use Rattle.server.specs.declared.Event.the-variants.{Nothing, ToBackup, 
 use Rattle.server.specs.declared.Server.{Server}
 use Rattle.server.specs.declared.Made.{Made}
 
--- The paper's detector states. BeaterSuspected "is passed through inside a step and is never seen after it".
+-- The paper's detector states, for a reader: nothing cites them. `idles` is its Idle; `none` is that of a server that is down. BeaterSuspected "is passed through
+-- inside a step and is never seen after it".
 pub data Detector : Type 0 where
   none idles beaterOK heartbeating : Detector
 
@@ -45,7 +46,7 @@ pub record Makes (i p : ℕ) (r : Made) : Type 0 where
   pub number : ofVerdict (r .verdict) ≡ choose (eqb i 0) 2 0
   pub server : r .server ≡ choose (eqb i 0) absent (idle i p)
 
--- ---- the fields of a server, set one at a time
+-- ---- the fields of a server, set
 
 abbrev pub inRole : Role → Server → Server
 inRole r s =
@@ -70,7 +71,8 @@ abbrev pub setSent : ℕ → Bool → ℕ → Server → Server
 setSent n r b s =
     record { identity = s .identity; priority = s .priority; role = s .role; silence = s .silence; beat = s .beat; prospect = s .prospect; beats = n; reveal = r; pass = b }
 
--- the most plain beats that are counted in a frame: each of 15 other servers passes at most once
+-- the most plain beats that are counted in a frame: each of 15 other servers passes at most once, and who becomes prospect in a frame has beat age 0, so that its
+-- timer adds none
 abbrev pub mostBeats : ℕ
 mostBeats = 15
 

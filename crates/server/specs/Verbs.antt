@@ -100,7 +100,7 @@ pub record Acts (v : Verb) (t b : ℕ) (s : Server) (a : Answer) (r : Acted) : T
 abbrev pub refusing : Server → Refusal → Acted
 refusing s k = record { verdict = Refused k; server = s; event = Nothing }
 
--- ---- the table, as the code has it: the number of the role entered, or that of the refusal
+-- ---- the table, as the code has it: the number of the role entered, or kept by `cut` and `mend`, or that of the refusal
 
 abbrev pub verbNumber : Verb → ℕ
 verbNumber Start = 0

@@ -1,5 +1,5 @@
 -- The words of the sheet.
-use mathlib.Core.List.{List, [], _∷_}
+use mathlib.Core.List.{List}
 use Prim.Native.Nat.{ℕ}
 use Rattle.text.specs.Words.{bytes}
 use Rattle.server.specs.declared.Word.{Word}

@@ -1,4 +1,4 @@
-// One server: what it hears, what its timers do, what verbs make of it.
+// One server: what its timers do, what verbs make of it, what it sends. What it hears is in `hearing`.
 use heartbeat::Heartbeat;
 use heartbeat::Rank;
 use refusal::Refusal;
@@ -9,7 +9,6 @@ ghost use Rattle.lists.specs.Choice.{choose};
 ghost use Rattle.refusal.specs.Answer.{numberOf};
 ghost use Rattle.server.specs.Period.{ofPeriod, takePeriod, shortest, beatLimit, silenceLimit, prospectLimit};
 ghost use Rattle.server.specs.Server.{absent, idle, Makes, rankOf, inRole, oneMore, sendBeat, toProspect, cleared, plainOf, revealOf, passOf, sentAny, after};
-ghost use Rattle.server.specs.Hearing.{fromHigher, fromLower, forThis, backupHears, prospectHears, primaryHears, hears, attending, heard};
 ghost use Rattle.server.specs.Timers.{silent, beating, rising, timed};
 ghost use Rattle.server.specs.Verbs.{roleNumber, verbNumber, cell, ofCell, enters, entering, verbEvent, paired, verbAnswer, refusing, Acts};
 ghost use Rattle.server.specs.Words.{said};
@@ -88,7 +87,7 @@ pub struct Server {
     pub pass: u16,
 }
 
-// The period of a channel, in frames. `Period::of` makes it, and no other crate can.
+// The period of a channel, in frames. `Period::of` and `Period::shortest` make it; no other crate can by itself.
 pub struct Period {
     frames: u8,
 }
@@ -103,12 +102,6 @@ pub enum PeriodAnswer {
 pub struct Made {
     pub verdict: Verdict,
     pub server: Server,
-}
-
-// A server after a heartbeat, and what happened.
-pub struct Heard {
-    pub server: Server,
-    pub event: Event,
 }
 
 // A server after the timers of a frame, and what each did, in their order.
@@ -150,7 +143,9 @@ impl Period {
     pub fn shortest() -> Period
         ensures { λ r. ⌜ r ≡ shortest ⌝ }
     {
-        Period { frames: 2 }
+        Period {
+            frames: Period::MIN as u8,
+        }
     }
 
     // The beat age at which a plain beat is sent.
@@ -181,10 +176,17 @@ impl Period {
 fn one_more(n: u8) -> u8
     ensures { λ r. ⌜ r ≡ oneMore n ⌝ }
 {
-    if n < 15 { n + 1 } else { 15 }
+    if n < Server::BEATS {
+        n + 1
+    } else {
+        Server::BEATS
+    }
 }
 
 impl Server {
+    // The most plain beats that are counted in a frame.
+    pub const BEATS: u8 = 15;
+
     // A place with no server.
     pub fn absent() -> Server
         ensures { λ r. ⌜ r ≡ absent ⌝ }
@@ -269,7 +271,8 @@ impl Server {
         self
     }
 
-    fn after(self, frame: u32, event: Event) -> Server
+    // After an event of a frame.
+    pub fn after(self, frame: u32, event: Event) -> Server
         ensures { λ r. ⌜ r ≡ after frame self event ⌝ }
     {
         match event {
@@ -369,106 +372,6 @@ impl Server {
         }
     }
 
-    // ---- hearing
-
-    fn from_higher(self, h: Heartbeat) -> bool
-        ensures { λ r. ⌜ r ≡ fromHigher self h ⌝ }
-    {
-        let sender = h.sender();
-        let hearer = self.rank();
-        sender.higher(hearer)
-    }
-
-    fn from_lower(self, h: Heartbeat) -> bool
-        ensures { λ r. ⌜ r ≡ fromLower self h ⌝ }
-    {
-        let sender = h.sender();
-        let hearer = self.rank();
-        hearer.higher(sender)
-    }
-
-    fn for_this(self, h: Heartbeat) -> bool
-        ensures { λ r. ⌜ r ≡ forThis self h ⌝ }
-    {
-        (h.bs != 0) & (h.bs == self.identity)
-    }
-
-    fn backup_hears(self, h: Heartbeat) -> Event
-        ensures { λ r. ⌜ r ≡ backupHears self h ⌝ }
-    {
-        if self.for_this(h) {
-            Event::ToProspectBeat
-        } else if h.reveals() & self.from_lower(h) {
-            Event::ToProspectReveal
-        } else {
-            Event::Nothing
-        }
-    }
-
-    fn prospect_hears(self, h: Heartbeat) -> Event
-        ensures { λ r. ⌜ r ≡ prospectHears self h ⌝ }
-    {
-        if self.from_higher(h) {
-            Event::ToBackup
-        } else {
-            Event::Nothing
-        }
-    }
-
-    fn primary_hears(self, h: Heartbeat) -> Event
-        ensures { λ r. ⌜ r ≡ primaryHears self h ⌝ }
-    {
-        if self.from_higher(h) {
-            Event::ToBackup
-        } else if self.from_lower(h) {
-            Event::Lower
-        } else {
-            Event::Nothing
-        }
-    }
-
-    fn hears(self, h: Heartbeat) -> Event
-        ensures { λ r. ⌜ r ≡ hears self h ⌝ }
-    {
-        let role = self.role;
-        match role {
-            Role::Down => Event::Nothing,
-            Role::Idle => Event::Nothing,
-            Role::Sync => Event::Nothing,
-            Role::Backup => self.backup_hears(h),
-            Role::Prospect => self.prospect_hears(h),
-            Role::Primary => self.primary_hears(h),
-        }
-    }
-
-    // A backup that hears sets its silence timer.
-    fn attending(self, frame: u32) -> Server
-        ensures { λ r. ⌜ r ≡ attending frame (self .role) self ⌝ }
-    {
-        let role = self.role;
-        match role {
-            Role::Down => self,
-            Role::Idle => self,
-            Role::Sync => self,
-            Role::Backup => {
-                let mut backup = self;
-                backup.silence = frame;
-                backup
-            }
-            Role::Prospect => self,
-            Role::Primary => self,
-        }
-    }
-
-    // One heartbeat, heard in a frame.
-    pub fn hear(self, frame: u32, h: Heartbeat) -> Heard
-        ensures { λ r. ⌜ r ≡ heard frame self h ⌝ }
-    {
-        let event = self.hears(h);
-        let server = self.attending(frame).after(frame, event);
-        Heard { server, event }
-    }
-
     // ---- timers
 
     fn silent(self, frame: u32, period: Period) -> Event
@@ -544,7 +447,7 @@ fn when(due: bool, event: Event) -> Event
 // ---- verbs
 
 // The table of roles against verbs: for each role, in the order of Role, and each verb, in the order of Verb, the number of the role that is
-// entered (0 to 5) or of the refusal (12 to 14).
+// entered, or kept by `cut` and `mend` (0 to 5), or of the refusal (12 to 14).
 const TABLE: [[u8; 8]; 6] = [
     [12, 12, 12, 12, 12, 1, 0, 0],
     [2, 14, 14, 14, 0, 13, 1, 1],
@@ -554,7 +457,8 @@ const TABLE: [[u8; 8]; 6] = [
     [14, 14, 14, 3, 0, 13, 5, 5],
 ];
 
-fn role_number(role: Role) -> usize
+// The number of a role.
+pub fn role_number(role: Role) -> u32
     ensures { λ r. ⌜ r ≡ roleNumber role ⌝ }
 {
     match role {
@@ -593,7 +497,7 @@ fn cell(role: usize, verb: usize) -> u8
 fn entered(verb: Verb, role: Role) -> u8
     ensures { λ r. ⌜ (ofCell r ≡ enters verb role) × (r < 15) ⌝ }
 {
-    cell(role_number(role), verb_number(verb))
+    cell(role_number(role) as usize, verb_number(verb))
 }
 
 // The refusal of a cell.

@@ -25,7 +25,7 @@ use Rattle.server.specs.declared.Period.{Period}
 use Rattle.server.specs.declared.Server.{Server}
 use Rattle.server.specs.Period.{silenceLimit, prospectLimit, beatLimit}
 use Rattle.server.specs.Server.{absent, setSilence, cleared, oneMore, sentBy, after}
-use Rattle.server.specs.Hearing.{fromHigher, fromLower, forThis, backupHears, prospectHears, primaryHears, hearsIn, hears, attending, heard}
+use Rattle.hearing.specs.Hearing.{fromHigher, fromLower, forThis, backupHears, prospectHears, primaryHears, hearsIn, hears, attending, heard}
 use Rattle.server.specs.Timers.{aged, silentIn, beatingIn, risingIn, afterSilent, afterBeating}
 use Rattle.server.specs.Verbs.{from, enters, entering, verbEvent, verbHappens, verbAnswer}
 use Rattle.group.specs.declared.State.{State}

@@ -9,7 +9,7 @@ use Rattle.server.specs.declared.Event.the-variants.{Nothing, ToBackup, ToProsp
 use Rattle.server.specs.declared.Server.{Server}
 use Rattle.server.specs.declared.Verb.{Verb}
 use Rattle.server.specs.Server.{cleared, plainOf, revealOf, passOf, sendPass, sentBy, after}
-use Rattle.server.specs.Hearing.{hears, attending}
+use Rattle.hearing.specs.Hearing.{hears, attending}
 use Rattle.server.specs.Timers.{silent, beating, rising, afterSilent, afterBeating}
 use Rattle.group.specs.declared.State.{State}
 use Rattle.group.specs.Table.{most, tableOf, freshRefusal, fresh}

@@ -7,8 +7,7 @@ use Prim.Native.Nat.{ℕ, _+_, _≤_, _<_}
 use native.Mathlib.Omega.{arith}
 use borrow.Author.Tests.{le-leb, lt-leb}
 use lib.ListN.{length, set, length-append}
-use Rattle.lists.specs.Choice.{choose}
-use Rattle.lists.specs.Splice.{splice, fits}
+use Rattle.lists.specs.Splice.{splice}
 use Rattle.lists.proofs.Cases.{less, chosen, other}
 use Rattle.lists.proofs.Splicing.{splice-none, splice-length, splices, splice-more}
 use Rattle.refusal.specs.Answer.{accepted, refused, numberOf}

@@ -26,7 +26,7 @@ use Rattle.server.specs.declared.Verb.{Verb}
 use Rattle.server.specs.declared.Verb.the-variants.{Start, Ready, Unready, Pass, Crash, Restart, Cut, Mend}
 use Rattle.server.specs.declared.Word.the-variants as word
 use Rattle.server.specs.declared.Said.the-variants as says
-use Rattle.server.specs.Server.{absent, after}
+use Rattle.server.specs.Server.{after}
 use Rattle.server.specs.Verbs.{paired, verbHappens, verbAnswer}
 use Rattle.server.specs.Words.{said}
 use Rattle.server.proofs.Verb.{the-type}

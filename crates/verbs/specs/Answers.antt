@@ -7,7 +7,7 @@ use Rattle.server.specs.declared.Period.{Period}
 use Rattle.server.specs.declared.Verb.{Verb}
 use Rattle.group.specs.Answers.{Gives}
 use Rattle.group.specs.Verbs.{known, verbOutcome}
-use Rattle.frame.specs.Words.{serversOf}
+use Rattle.places.specs.Words.{serversOf}
 use Rattle.frame.specs.Answers.{stateOf}
 use Rattle.verbs.specs.declared.Acted.{Acted}
 

@@ -15,7 +15,7 @@ ghost use Rattle.lines.specs.Lines.{linesOf};
 ghost use Rattle.group.specs.Table.{placeIn};
 ghost use Rattle.group.specs.Hearing.{linkOf};
 ghost use Rattle.group.specs.Verbs.{namesNobody};
-ghost use Rattle.frame.specs.Words.{serversOf};
+ghost use Rattle.places.specs.Words.{serversOf};
 ghost use Rattle.verbs.specs.Answers.{Knows, Acts};
 ghost use Rattle.verbs.specs.Steps.{knownAt, Does, Tells};
 
@@ -69,7 +69,7 @@ fn second_place(words: &[u32; 80], verb: Verb, b: u16) -> usize
     ensures { λ r. ⌜ r ≡ choose (paired verb) (placeIn (serversOf (now (words .entry))) b) 0 ⌝ }
 {
     if server::paired(verb) {
-        frame::place_in(words, b)
+        places::place_in(words, b)
     } else {
         0
     }
@@ -163,7 +163,7 @@ fn put(
     requires { ⌜ (i < 16) × (j < 16) ⌝ }
     ensures { λ _. ⌜ (serversOf (now (words .exit)) ≡ set (serversOf (now (words .entry))) i server) × (now (whole .exit) ≡ set (now (whole .entry)) (linkOf i j) link) ⌝ }
 {
-    frame::put(words, i, server);
+    places::put(words, i, server);
     whole[16 * i + j] = link;
 }
 
@@ -171,7 +171,7 @@ fn put(
 pub fn knows(words: &[u32; 80], verb: Verb, a: u16, b: u16) -> bool
     ensures { λ r. ⌜ Knows (now (words .entry)) verb a b r ⌝ }
 {
-    let first = frame::place_in(words, a);
+    let first = places::place_in(words, a);
     let second = second_place(words, verb, b);
     known(verb, a, b, first, second)
 }
@@ -188,11 +188,11 @@ pub fn act(
 ) -> Acted
     ensures { λ r. ⌜ Acts frame (now (words .entry)) (now (whole .entry)) verb a b (now (out .entry)) r (now (words .exit)) (now (whole .exit)) (now (out .exit)) ⌝ }
 {
-    let first = frame::place_in(words, a);
+    let first = places::place_in(words, a);
     let second = second_place(words, verb, b);
     let i = first % 16;
     let j = second % 16;
-    let s = frame::server(words, i);
+    let s = places::server(words, i);
     let deed = attempt(verb, frame, b, s, whole[16 * i + j]);
     let allowed = deed.verdict;
     let said = deed.said;

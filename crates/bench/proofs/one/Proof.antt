@@ -5,7 +5,7 @@ use borrow.Author.Tests.{lt-ltb, le-ltb}
 use Rattle.lists.proofs.Cases.{chosen, other}
 use Rattle.server.specs.declared.Verb.{Verb}
 use Rattle.group.specs.Verbs.{verbOutcome}
-use Rattle.frame.specs.Words.{serversOf}
+use Rattle.places.specs.Words.{serversOf}
 use Rattle.frame.specs.Answers.{stateOf}
 use Rattle.bench.specs.Bench.{stepOf}
 use Rattle.bench.proofs.Running.{one-step}

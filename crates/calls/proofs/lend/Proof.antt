@@ -1,8 +1,6 @@
 use Rattle.channel.specs.Answers.{state}
-use mathlib.Core.Path.{_≡_, refl, sym, ap, _∙_}
-use Prim.Native.Nat.{_≤_}
+use mathlib.Core.Path.{refl, sym}
 use native.Mathlib.Omega.{arith}
-use lib.ListN.{length}
 use lib.Seq.{length-take-le, length-front}
 use Rattle.calls.proofs.Calling.{lesser-fits, one-call}
 use borrow.Author.Needs.{needs}

@@ -1,7 +1,6 @@
 use mathlib.Core.Path.{sym}
 use borrow.Author.Tests.{lt-ltb, le-ltb}
 use Rattle.lists.proofs.Cases.{chosen, other}
-use borrow.Author.Needs.{needs}
 use Rattle.calls.proofs.lesser.Statement.{statement}
 use Rattle.calls.proofs.lesser.Tie as tie
 

@@ -2,7 +2,6 @@ use mathlib.Core.Path.{sym, _∙_}
 use borrow.Author.Tests.{eq-eqb, ne-eqb}
 use Rattle.lists.proofs.Cases.{chosen, other}
 use Rattle.calls.specs.Encoding.{verbAt}
-use borrow.Author.Needs.{needs}
 use Rattle.calls.proofs.verb_at.Statement.{statement}
 use Rattle.calls.proofs.verb_at.Tie as tie
 

@@ -3,7 +3,6 @@ use native.Mathlib.Omega.{arith}
 use borrow.Author.Tests.{le-leb, lt-leb}
 use Rattle.lists.proofs.Cases.{chosen, other}
 use Rattle.frame.specs.Steps.{clamped}
-use borrow.Author.Needs.{needs}
 use Rattle.frame.proofs.clamp.Statement.{statement}
 use Rattle.frame.proofs.clamp.Tie as tie
 

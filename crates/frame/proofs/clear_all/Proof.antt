@@ -1,17 +1,16 @@
 use mathlib.Core.Path.{_≡_, subst, sym, ap}
 use mathlib.Core.List.{List}
-use Prim.Native.Nat.{ℕ, _+_, _-_, _<_}
+use Prim.Native.Nat.{_+_, _-_, _<_}
 use native.Mathlib.Omega.{arith}
 use lib.ListN.{length}
 use Rattle.lists.proofs.MapLoop.{Mapped}
 use Rattle.lists.proofs.MapLoop as map
 use Rattle.server.specs.declared.Server.{Server}
 use Rattle.server.specs.Server.{absent, cleared}
-use Rattle.frame.specs.Words.{serversOf}
+use Rattle.places.specs.Words.{serversOf}
 use Rattle.frame.specs.Steps.{clearing}
-use Rattle.frame.proofs.Words.{long-of}
+use Rattle.places.proofs.Words.{long-of}
 use Rattle.frame.proofs.Still.{still-clear}
-use borrow.Author.Needs.{needs}
 use Rattle.frame.proofs.clear_all.Statement.{statement}
 use Rattle.frame.proofs.clear_all.Tie as tie
 

@@ -2,8 +2,7 @@ use mathlib.Core.Path.{_∙_}
 use Prim.Native.Nat.{_+_, _*_}
 use native.Mathlib.Omega.{arith}
 use lib.ListN.{length-set}
-use Rattle.frame.proofs.Words.{clear-is}
-use borrow.Author.Needs.{needs}
+use Rattle.places.proofs.Words.{clear-is}
 use Rattle.frame.proofs.clear_at.Statement.{statement}
 use Rattle.frame.proofs.clear_at.Tie as tie
 

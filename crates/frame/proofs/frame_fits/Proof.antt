@@ -1,13 +1,12 @@
-use mathlib.Core.Path.{_≡_, refl, sym, ap, _∙_}
-use Prim.Native.Nat.{_+_, _≤_}
+use mathlib.Core.Path.{refl, sym}
+use Prim.Native.Nat.{_+_}
 use native.Mathlib.Omega.{arith}
 use borrow.Author.Tests.{le-leb}
 use lib.ListN.{length}
 use Rattle.group.specs.Frame.{frameLines}
-use Rattle.frame.specs.Words.{serversOf}
+use Rattle.places.specs.Words.{serversOf}
 use Rattle.frame.specs.Answers.{stateOf}
-use Rattle.frame.specs.Steps.{mostBytes}
-use Rattle.frame.proofs.Words.{long-of, fits-of}
+use Rattle.places.proofs.Words.{long-of, fits-of}
 use Rattle.frame.proofs.Bound.{frame-most}
 use Rattle.frame.proofs.Telling.{counted-fits}
 use borrow.Author.Needs.{needs}

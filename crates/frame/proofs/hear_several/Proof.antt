@@ -6,7 +6,8 @@ use borrow.Author.Tests.{leb-true}
 use lib.ListN.{take}
 use mathlib.Core.Bool.{Bool}
 use Rattle.lists.proofs.Cases.{fst-true, snd-true}
-use Rattle.frame.specs.Steps.{Numbers, SenderList, bestIn, Near, nextBy, inboxBy, isProspect}
+use Rattle.places.specs.Roles.{isProspect}
+use Rattle.frame.specs.Steps.{SenderList, bestIn, Near, nextBy, inboxBy}
 use Rattle.frame.proofs.Hearings.{Hearing, begin, turn, finish}
 use Rattle.frame.proofs.Heeding.{silent-hears, prospect-is, stays-all}
 use Rattle.frame.proofs.Lookup.{best-heard, inboxAfter, inbox-all, heard-more, heard-none, heard-out}

@@ -1,7 +1,7 @@
 use mathlib.Core.Path.{refl, sym, _∙_}
-use Rattle.frame.specs.Words.{serversOf}
+use Rattle.places.specs.Words.{serversOf}
 use Rattle.frame.specs.Answers.{stateOf}
-use Rattle.frame.proofs.Words.{long-of}
+use Rattle.places.proofs.Words.{long-of}
 use Rattle.frame.proofs.Listing.{lists-all}
 use Rattle.frame.proofs.Lookup.{inbox-same, unheard}
 use Rattle.frame.proofs.Unheard.{unheard-run}

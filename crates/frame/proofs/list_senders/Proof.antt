@@ -1,8 +1,8 @@
 use mathlib.Core.Path.{_∙_, ap}
 use Prim.Native.Nat.{_-_}
 use native.Mathlib.Omega.{arith}
-use Rattle.frame.specs.Words.{sendingNumber, serversOf}
-use Rattle.frame.proofs.Words.{fits-of}
+use Rattle.places.specs.Words.{sendingNumber, serversOf}
+use Rattle.places.proofs.Words.{fits-of}
 use Rattle.frame.proofs.Listing.{Listing, list-begin, list-turn, list-end}
 use borrow.Author.Needs.{needs}
 use Rattle.frame.proofs.list_senders.Statement.{statement}
@@ -16,10 +16,10 @@ abbrev μ-loop : tie.MeasureT-loop
 
 loop-again : tie.Need-loop-again Inv-loop μ-loop
 loop-again c =
-    list-turn (c .before .before .before .before .loop .inv) (omega (arith, c .before .before .before .before .before .pre .0 .few, c .before .before .before .loop-test .taken)) (c .before .sending-number .ensures .0 ∙ ap sendingNumber (c .before .before .server-at .ensures)) (c .one-if .ensures)
+    list-turn (c .before .before .before .before .loop .inv) (omega (arith, c .before .before .before .before .before .pre .0 .few, c .before .before .before .loop-test .taken)) (c .before .sending-number .ensures .0 ∙ ap sendingNumber (c .before .before .server .ensures)) (c .one-if .ensures)
 
 add-count : tie.Need-add-count Inv-loop μ-loop
 add-count c = omega (arith, loop-again c .few)
 
 pub list-senders-spec : {M : Type 1} → statement M
-list-senders-spec = tie.close (tie.spec Inv-loop μ-loop (λ c. list-begin (c .pre .1 .0) (c .pre .1 .1)) (λ c κs. omega (arith, c .before .before .pre .0 .few)) (λ c κs. search needs) (λ c. omega arith) (λ c. omega (arith, c .before .before .before .before .pre .0 .few)) (λ c. omega arith) (λ c. omega (arith, c .before .before .before .before .pre .0 .few, c .before .before .before .loop .inv .few)) (λ c κs. search needs) add-count (λ c. omega arith) (λ c. omega arith) loop-again (λ c. list-end (fits-of (c .before .before .args .words .now)) (c .before .before .pre .0) (c .before .loop .inv) (c .loop-test .left)))
+list-senders-spec = tie.close (tie.spec Inv-loop μ-loop (λ c. list-begin (c .pre .1 .0) (c .pre .1 .1)) (λ c κs. search needs) (λ c κs. search needs) (λ c. omega arith) (λ c. omega (arith, c .before .before .before .before .pre .0 .few)) (λ c. omega arith) (λ c. omega (arith, c .before .before .before .before .pre .0 .few, c .before .before .before .loop .inv .few)) (λ c κs. search needs) add-count (λ c. omega arith) (λ c. omega arith) loop-again (λ c. list-end (fits-of (c .before .before .args .words .now)) (c .before .before .pre .0) (c .before .loop .inv) (c .loop-test .left)))

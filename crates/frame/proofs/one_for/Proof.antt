@@ -1,6 +1,5 @@
 use mathlib.Core.Path.{sym}
 use Rattle.lists.proofs.Cases.{chosen, other}
-use borrow.Author.Needs.{needs}
 use Rattle.frame.proofs.one_for.Statement.{statement}
 use Rattle.frame.proofs.one_for.Tie as tie
 

@@ -1,7 +1,6 @@
 use mathlib.Core.Path.{sym}
 use borrow.Author.Tests.{eq-eqb, ne-eqb}
 use Rattle.lists.proofs.Cases.{chosen, other}
-use borrow.Author.Needs.{needs}
 use Rattle.frame.proofs.one_if.Statement.{statement}
 use Rattle.frame.proofs.one_if.Tie as tie
 

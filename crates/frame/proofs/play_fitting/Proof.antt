@@ -1,6 +1,6 @@
 use mathlib.Core.Path.{sym, ap, _∙_}
 use lib.ListN.{length}
-use Rattle.frame.specs.Words.{serversOf}
+use Rattle.places.specs.Words.{serversOf}
 use Rattle.frame.specs.Answers.{stateOf}
 use Rattle.frame.proofs.Faring.{plays-so, plays-not}
 use borrow.Author.Needs.{needs}

@@ -1,6 +1,6 @@
-use Rattle.frame.specs.Words.{serversOf}
+use Rattle.places.specs.Words.{serversOf}
 use Rattle.frame.specs.Answers.{stateOf}
-use Rattle.frame.proofs.Words.{long-of}
+use Rattle.places.proofs.Words.{long-of}
 use Rattle.frame.proofs.Loud.{loud-quiet}
 use Rattle.frame.proofs.Frames.{ticks-run}
 use borrow.Author.Needs.{needs}

@@ -1,5 +1,4 @@
 use mathlib.Core.Path.{sym, ap, _∙_}
-use Rattle.server.specs.declared.Said.{Said}
 use Rattle.lines.specs.Lines.{linesOf}
 use Rattle.frame.proofs.Writing.{start, says-out, out-as}
 use borrow.Author.Needs.{needs}

@@ -1,21 +1,19 @@
-use mathlib.Core.Path.{_≡_, refl, subst, sym, ap, _∙_}
+use mathlib.Core.Path.{_≡_, refl, subst, sym}
 use mathlib.Core.List.{List}
-use Prim.Native.Nat.{ℕ, _+_, _-_, _<_}
+use Prim.Native.Nat.{_+_, _-_, _<_}
 use native.Mathlib.Omega.{arith}
 use lib.ListN.{length, drop}
 use Rattle.lists.proofs.MapLoop.{Mapped}
 use Rattle.lists.proofs.MapLoop as map
 use Rattle.server.specs.declared.Server.{Server}
 use Rattle.server.specs.Server.{absent}
-use Rattle.server.specs.Timers.{timed}
-use Rattle.frame.specs.Words.{serversOf}
+use Rattle.places.specs.Words.{serversOf}
 use Rattle.frame.specs.Steps.{ticked, tickLines}
-use Rattle.frame.proofs.Words.{long-of}
+use Rattle.places.proofs.Words.{long-of}
 use Rattle.frame.proofs.Writing.{Toward}
 use Rattle.frame.proofs.Writing as out
 use Rattle.frame.proofs.Frames.{ticks-more, ticks-as}
 use Rattle.frame.proofs.Still.{still-ticked, ticks-early}
-use borrow.Author.Needs.{needs}
 use Rattle.frame.proofs.tick_all.Statement.{statement}
 use Rattle.frame.proofs.tick_all.Tie as tie
 

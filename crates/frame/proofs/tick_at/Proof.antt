@@ -1,9 +1,6 @@
-use mathlib.Core.Path.{_≡_, sym, ap, _∙_}
+use mathlib.Core.Path.{sym, ap, _∙_}
 use lib.ListN.{set}
-use Rattle.server.specs.Server.{absent}
-use Rattle.server.specs.declared.Server.{Server}
-use Rattle.server.specs.Timers.{timed}
-use Rattle.frame.specs.Words.{serversOf}
+use Rattle.places.specs.Words.{serversOf}
 use Rattle.frame.proofs.Frames.{does-as, ticks-none}
 use borrow.Author.Needs.{needs}
 use Rattle.frame.proofs.tick_at.Statement.{statement}
@@ -12,14 +9,14 @@ use Rattle.frame.proofs.tick_at.Tie as tie
 returns : tie.Need-returns
 returns c =
     let a = c .before .before .before .before .before .before .before .before .before .before .before .args in
-    let p = c .store .ensures in
-    let q = does-as (a .frame) (a .period) (c .before .before .before .before .before .before .before .before .server-at .ensures) (c .before .before .before .before .run-due .ensures) in
-    (p .0, record { servers = p .1 ∙ ap (set (serversOf (a .words .now)) (a .j)) (q .server); out = q .out })
+    let p = c .put .ensures in
+    let q = does-as (a .frame) (a .period) (c .before .before .before .before .before .before .before .before .server .ensures) (c .before .before .before .before .run-due .ensures) in
+    (p .0 ∙ c .before .before .before .before .before .before .before .before .before .before .before .pre .0, record { servers = p .1 ∙ ap (set (serversOf (a .words .now)) (a .j)) (q .server); out = q .out })
 
 returns-2 : tie.Need-returns-2
 returns-2 c =
     let a = c .before .before .before .before .before .args in
-    (c .before .before .before .before .before .pre .0, ticks-none (a .frame) (a .period) (serversOf (a .words .now)) (a .j) (c .before .before .server-at .ensures) (sym (c .before .ticks .ensures) ∙ c .if1 .left))
+    (c .before .before .before .before .before .pre .0, ticks-none (a .frame) (a .period) (serversOf (a .words .now)) (a .j) (c .before .before .server .ensures) (sym (c .before .ticks .ensures) ∙ c .if1 .left))
 
 pub tick-at-spec : {M : Type 1} → statement M
-tick-at-spec = tie.close (tie.spec (λ c κs. c .before .before .pre .1) (λ c κs. search needs) (λ c κs. sym (c .before .before .ticks .ensures) ∙ c .before .if1 .taken) (λ c κs. c .before .before .before .before .before .before .before .before .before .before .pre) (λ c. search needs) returns returns-2)
+tick-at-spec = tie.close (tie.spec (λ c κs. search needs) (λ c κs. search needs) (λ c κs. sym (c .before .before .ticks .ensures) ∙ c .before .if1 .taken) (λ c κs. search needs) (λ c. search needs) returns returns-2)

@@ -1,9 +1,6 @@
-use mathlib.Core.Path.{_∙_, ap, ap₂, sym}
+use mathlib.Core.Path.{ap₂}
 use mathlib.Core.Bool.{Bool, _||_}
-use Prim.Native.Nat.{ℕ}
-use Rattle.server.specs.declared.Role.{Role}
 use Rattle.server.specs.Timers.{aged}
-use Rattle.frame.specs.Steps.{ticksIn}
 use borrow.Author.Needs.{needs}
 use Rattle.frame.proofs.ticks.Statement.{statement}
 use Rattle.frame.proofs.ticks.Tie as tie

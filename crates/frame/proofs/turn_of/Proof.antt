@@ -1,10 +1,9 @@
-use mathlib.Core.Bool.{Bool, false, _&&_, _||_}
-use mathlib.Core.Path.{_≡_, _∙_, sym, ap}
+use mathlib.Core.Bool.{false, _&&_}
+use mathlib.Core.Path.{_≡_, _∙_, sym}
 use lib.ListN.{getD}
-use Rattle.server.specs.declared.Server.{Server}
 use Rattle.server.specs.Server.{cleared}
 use Rattle.lists.proofs.Cases.{on, or-false}
-use Rattle.frame.specs.Steps.{SenderList, ticksIn, takesPart, inboxBy}
+use Rattle.frame.specs.Steps.{SenderList, ticksIn, inboxBy}
 use Rattle.frame.proofs.Hearings.{idle-turn}
 use Rattle.frame.proofs.Heeding.{and-false, Silent, silent-nothing, aside-still}
 use Rattle.frame.proofs.Still.{still-heard}

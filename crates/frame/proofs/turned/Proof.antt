@@ -1,8 +1,7 @@
-use mathlib.Core.Path.{_≡_, refl, subst, sym, _∙_}
-use mathlib.Core.List.{List}
-use Prim.Native.Nat.{ℕ, _+_, _-_, _<_}
+use mathlib.Core.Path.{refl}
+use Prim.Native.Nat.{_+_, _-_, _<_}
 use native.Mathlib.Omega.{arith}
-use lib.ListN.{length, drop}
+use lib.ListN.{drop}
 use Rattle.lists.proofs.Cases.{length-mapped}
 use Rattle.lists.proofs.MapLoop.{Mapped}
 use Rattle.lists.proofs.MapLoop as map

@@ -1,6 +1,6 @@
 use mathlib.Core.Path.{sym, subst}
 use Rattle.frame.specs.Steps.{Still}
-use Rattle.frame.proofs.Words.{long-of}
+use Rattle.places.proofs.Words.{long-of}
 use Rattle.frame.proofs.Unheard.{cleared-still}
 use borrow.Author.Needs.{needs}
 use Rattle.frame.proofs.unheard_frame.Statement.{statement}

@@ -1,13 +1,11 @@
-use mathlib.Core.Bool.{true, false, not, _&&_}
-use mathlib.Core.Path.{_≡_, _∙_, sym, ap, refl, subst}
-use mathlib.Core.Logic.{⊎-elim}
-use Prim.Native.Nat.{ℕ, _-_, _≤_, _+_}
+use mathlib.Core.Bool.{false}
+use mathlib.Core.Path.{refl, subst}
+use Prim.Native.Nat.{_-_, _≤_}
 use native.Mathlib.Omega.{arith}
 use lib.ListN.{getD}
-use Rattle.lists.proofs.Cases.{clash, less, on, tested}
-use Rattle.server.specs.declared.Server.{Server}
+use Rattle.lists.proofs.Cases.{clash}
 use Rattle.group.specs.Hearing.{linkOf}
-use Rattle.frame.specs.Words.{serversOf}
+use Rattle.places.specs.Words.{serversOf}
 use Rattle.frames.specs.Steps.{Waits, AllWait}
 use Rattle.frames.proofs.Beating.{waits-more}
 use borrow.Author.Needs.{needs}

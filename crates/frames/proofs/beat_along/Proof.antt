@@ -1,6 +1,6 @@
 use mathlib.Core.Path.{_≡_, _∙_, sym, ap, subst}
 use mathlib.Core.List.{List}
-use Prim.Native.Nat.{ℕ, _+_, _-_, _<_, _≤_}
+use Prim.Native.Nat.{ℕ, _+_, _-_}
 use native.Mathlib.Omega.{arith}
 use mathlib.Core.Bool.{Bool}
 use lib.ListN.{length, getD}
@@ -8,10 +8,10 @@ use Rattle.lists.specs.Lists.{mapFrom}
 use Rattle.server.specs.declared.Server.{Server}
 use Rattle.server.specs.Server.{absent}
 use Rattle.server.specs.Period.{beatLimit}
-use Rattle.frame.specs.Words.{serversOf}
+use Rattle.places.specs.Words.{serversOf}
 use Rattle.frame.specs.Answers.{stateOf}
 use Rattle.frames.specs.Steps.{pulsed, Beats, Stretches}
-use Rattle.frame.proofs.Words.{long-of}
+use Rattle.places.proofs.Words.{long-of}
 use Rattle.frames.proofs.Fitting.{stretch-fares}
 use Rattle.frames.proofs.Beating.{beats-last, beats-stretch, beats-none}
 use borrow.Author.Needs.{needs}

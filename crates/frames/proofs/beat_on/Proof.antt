@@ -1,13 +1,11 @@
-use mathlib.Core.Path.{_≡_, _∙_, sym, ap, subst}
-use mathlib.Core.List.{List}
-use Prim.Native.Nat.{ℕ, _+_, _-_, _<_, _≤_}
+use mathlib.Core.Path.{sym, subst}
+use Prim.Native.Nat.{ℕ, _+_, _-_, _≤_}
 use native.Mathlib.Omega.{arith}
 use lib.ListN.{length}
 use Rattle.server.specs.declared.Said.the-variants.{One}
 use Rattle.server.specs.declared.Word.the-variants.{Beat}
 use Rattle.server.specs.Period.{beatLimit}
 use Rattle.lines.specs.Lines.{linesOf}
-use Rattle.frames.specs.declared.Pulse.{Pulse}
 use Rattle.frames.specs.Steps.{Beats}
 use Rattle.frames.proofs.Beating.{going-on, beat-long, said-to, beats-begin, beats-turn}
 use borrow.Author.Needs.{needs}

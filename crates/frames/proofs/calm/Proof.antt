@@ -9,8 +9,8 @@ use Rattle.server.specs.declared.Server.{Server}
 use Rattle.server.specs.Server.{absent}
 use Rattle.server.specs.Period.{beatLimit}
 use Rattle.lists.proofs.Cases.{or-false}
-use Rattle.frame.specs.Words.{serversOf}
-use Rattle.frame.proofs.Words.{not-some}
+use Rattle.places.specs.Words.{serversOf}
+use Rattle.places.proofs.Words.{not-some}
 use Rattle.frames.specs.Steps.{AllWait}
 use Rattle.frames.proofs.Beating.{calm-is}
 use borrow.Author.Needs.{needs}

@@ -1,9 +1,8 @@
 use mathlib.Core.Bool.{false}
 use Prim.Native.Nat.{_-_}
-use Rattle.frame.specs.Words.{serversOf}
+use Rattle.places.specs.Words.{serversOf}
 use Rattle.frame.specs.Answers.{stateOf}
 use Rattle.frames.proofs.Playing.{Playing, play-begin, play-less, play-turn, play-end}
-use borrow.Author.Needs.{needs}
 use Rattle.frames.proofs.count_all.Statement.{statement}
 use Rattle.frames.proofs.count_all.Tie as tie
 

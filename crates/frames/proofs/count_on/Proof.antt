@@ -1,4 +1,4 @@
-use Rattle.frame.specs.Words.{serversOf}
+use Rattle.places.specs.Words.{serversOf}
 use Rattle.frame.specs.Answers.{stateOf}
 use Rattle.frames.proofs.Playing.{goes-jump}
 use borrow.Author.Needs.{needs}

@@ -1,7 +1,6 @@
 use mathlib.Core.Path.{sym}
 use borrow.Author.Tests.{le-leb, lt-leb}
 use Rattle.lists.proofs.Cases.{chosen, other}
-use borrow.Author.Needs.{needs}
 use Rattle.frames.proofs.earlier.Statement.{statement}
 use Rattle.frames.proofs.earlier.Tie as tie
 

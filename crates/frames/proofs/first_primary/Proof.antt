@@ -1,8 +1,8 @@
-use mathlib.Core.Path.{_≡_, _∙_, sym, ap}
+use mathlib.Core.Path.{_∙_, sym, ap}
 use Prim.Native.Nat.{_-_, _≤_}
 use native.Mathlib.Omega.{arith}
 use Rattle.server.specs.declared.Server.{Server}
-use Rattle.frame.specs.Answers.{isPrimary}
+use Rattle.places.specs.Roles.{isPrimary}
 use borrow.Author.Needs.{needs}
 use Rattle.frames.proofs.first_primary.Statement.{statement}
 use Rattle.frames.proofs.first_primary.Tie as tie

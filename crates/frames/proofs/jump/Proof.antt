@@ -1,7 +1,7 @@
 use mathlib.Core.Path.{refl}
 use native.Mathlib.Omega.{arith}
-use Rattle.frame.specs.Words.{serversOf}
-use Rattle.frame.proofs.Words.{long-of}
+use Rattle.places.specs.Words.{serversOf}
+use Rattle.places.proofs.Words.{long-of}
 use Rattle.frame.proofs.Loud.{loud-quiet}
 use Rattle.frames.proofs.Playing.{jump-none, jump-quiet}
 use borrow.Author.Needs.{needs}

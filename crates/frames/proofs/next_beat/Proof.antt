@@ -1,6 +1,5 @@
-use mathlib.Core.Path.{_∙_, ap}
+use mathlib.Core.Path.{ap}
 use Prim.Native.Nat.{ℕ, _+_}
-use native.Mathlib.Omega.{arith}
 use borrow.Author.Needs.{needs}
 use Rattle.frames.proofs.next_beat.Statement.{statement}
 use Rattle.frames.proofs.next_beat.Tie as tie

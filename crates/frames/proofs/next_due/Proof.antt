@@ -1,9 +1,9 @@
-use mathlib.Core.Path.{_≡_, subst}
+use mathlib.Core.Path.{subst}
 use Prim.Native.Nat.{_-_}
 use native.Mathlib.Omega.{arith}
 use Rattle.server.specs.declared.Server.{Server}
 use Rattle.frame.specs.Steps.{Rests}
-use Rattle.frame.specs.Words.{serversOf}
+use Rattle.places.specs.Words.{serversOf}
 use Rattle.frame.proofs.Quiet.{Resting, rest-begin, rest-turn}
 use Rattle.frame.proofs.Still.{still-begin, rest-early}
 use borrow.Author.Needs.{needs}

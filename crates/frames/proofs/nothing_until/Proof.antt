@@ -2,8 +2,8 @@ use mathlib.Core.Path.{refl}
 use mathlib.Core.Logic.{inr}
 use native.Mathlib.Omega.{arith}
 use Rattle.lists.proofs.Cases.{clash}
-use Rattle.frame.specs.Words.{serversOf}
-use Rattle.frame.proofs.Words.{long-of}
+use Rattle.places.specs.Words.{serversOf}
+use Rattle.places.proofs.Words.{long-of}
 use Rattle.frame.proofs.Loud.{loud-quiet}
 use Rattle.frames.proofs.Playing.{jump-quiet}
 use borrow.Author.Needs.{needs}

@@ -3,7 +3,7 @@ use native.Mathlib.Omega.{arith}
 use lib.ListN.{length}
 use Rattle.group.specs.declared.State.{State}
 use Rattle.group.specs.Advance.{timeGoes}
-use Rattle.frame.specs.Words.{serversOf}
+use Rattle.places.specs.Words.{serversOf}
 use Rattle.frame.specs.Answers.{stateOf}
 use Rattle.frame.proofs.Telling.{within, too-short, told-all}
 use Rattle.frames.proofs.Fitting.{all-within}

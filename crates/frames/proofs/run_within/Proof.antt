@@ -1,5 +1,5 @@
 use Rattle.group.specs.declared.State.{State}
-use Rattle.frame.specs.Words.{serversOf}
+use Rattle.places.specs.Words.{serversOf}
 use Rattle.frame.specs.Answers.{stateOf}
 use Rattle.frames.proofs.Fitting.{within-short, within-fits, quiet-fits}
 use borrow.Author.Needs.{needs}

@@ -1,5 +1,5 @@
 use native.Mathlib.Omega.{arith}
-use Rattle.frame.proofs.Words.{unsent-at}
+use Rattle.places.proofs.Words.{unsent-at}
 use borrow.Author.Needs.{needs}
 use Rattle.frames.proofs.sent_none.Statement.{statement}
 use Rattle.frames.proofs.sent_none.Tie as tie

@@ -1,16 +1,15 @@
 use mathlib.Core.Path.{_≡_, refl, subst, sym, ap, _∙_}
 use mathlib.Core.List.{List}
-use Prim.Native.Nat.{ℕ, _+_, _-_, _<_}
+use Prim.Native.Nat.{_+_, _-_, _<_}
 use native.Mathlib.Omega.{arith}
 use lib.ListN.{length, set}
 use Rattle.lists.proofs.MapLoop.{Mapped}
 use Rattle.lists.proofs.MapLoop as map
 use Rattle.server.specs.declared.Server.{Server}
 use Rattle.server.specs.Server.{absent}
-use Rattle.frame.specs.Words.{serversOf}
+use Rattle.places.specs.Words.{serversOf}
 use Rattle.frames.specs.Steps.{pulsed}
-use Rattle.frame.proofs.Words.{long-of}
-use borrow.Author.Needs.{needs}
+use Rattle.places.proofs.Words.{long-of}
 use Rattle.frames.proofs.settle.Statement.{statement}
 use Rattle.frames.proofs.settle.Tie as tie
 

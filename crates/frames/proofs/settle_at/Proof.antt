@@ -1,17 +1,16 @@
-use mathlib.Core.Path.{_≡_, _∙_, sym, ap, refl}
+use mathlib.Core.Path.{_≡_, _∙_, sym, ap}
 use mathlib.Core.Bool.{Bool}
-use Prim.Native.Nat.{ℕ, _+_, _*_}
+use Prim.Native.Nat.{_+_, _*_}
 use native.Mathlib.Omega.{arith}
 use borrow.Author.Tests.{eq-eqb, ne-eqb}
-use lib.ListN.{length, set, getD, length-set}
+use lib.ListN.{set, getD, length-set}
 use lib.Seq.{set-getD}
 use Rattle.lists.proofs.Cases.{chosen, other}
 use Rattle.server.specs.declared.Server.{Server}
 use Rattle.server.specs.Server.{absent}
-use Rattle.frame.specs.Words.{serversOf}
-use Rattle.frame.specs.Answers.{isBackup}
-use Rattle.frames.specs.Steps.{pulsed}
-use Rattle.frame.proofs.Words.{silence-is, beat-is}
+use Rattle.places.specs.Words.{serversOf}
+use Rattle.places.specs.Roles.{isBackup}
+use Rattle.places.proofs.Words.{silence-is, beat-is}
 use borrow.Author.Needs.{needs}
 use Rattle.frames.proofs.settle_at.Statement.{statement}
 use Rattle.frames.proofs.settle_at.Tie as tie

@@ -1,6 +1,5 @@
 use native.Mathlib.Omega.{arith}
 use Rattle.frames.proofs.Beating.{asleep}
-use borrow.Author.Needs.{needs}
 use Rattle.frames.proofs.sleeps.Statement.{statement}
 use Rattle.frames.proofs.sleeps.Tie as tie
 

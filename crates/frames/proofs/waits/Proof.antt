@@ -1,5 +1,4 @@
-use mathlib.Core.Bool.{true, _&&_}
-use mathlib.Core.Path.{_≡_, _∙_, sym, ap, subst}
+use mathlib.Core.Path.{_∙_, sym, subst}
 use mathlib.Core.Logic.{inl, inr}
 use Prim.Native.Nat.{ℕ, _+_}
 use Rattle.lists.proofs.Cases.{fst-true, snd-true}

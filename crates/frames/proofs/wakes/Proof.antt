@@ -1,4 +1,3 @@
-use native.Mathlib.Omega.{arith}
 use Rattle.frame.proofs.Quiet.{rests-down, rests-idle, rests-sync, rests-backup, rests-primary, rests-prospect, earlier-left, earlier-right}
 use borrow.Author.Needs.{needs}
 use Rattle.frames.proofs.wakes.Statement.{statement}

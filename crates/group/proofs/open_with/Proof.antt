@@ -1,9 +1,7 @@
-use Prim.Native.Nat.{_≤_}
-use mathlib.Core.Path.{_∙_, sym, ap}
+use mathlib.Core.Path.{_∙_, sym}
 use native.Mathlib.Omega.{arith}
 use borrow.Author.Needs.{needs}
 use Rattle.refusal.specs.declared.Refusal.the-variants.{Servers, Period}
-use Rattle.group.specs.Table.{counted}
 use Rattle.group.proofs.Opening.{opens-not, nobody, too-many, enough, opens}
 use Rattle.group.proofs.open_with.Statement.{statement}
 use Rattle.group.proofs.open_with.Tie as tie

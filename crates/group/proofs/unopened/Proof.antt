@@ -2,7 +2,6 @@ use mathlib.Core.Path.{ap, _∙_}
 use borrow.Author.Needs.{needs}
 use Rattle.refusal.specs.declared.Verdict.the-variants.{Refused}
 use Rattle.group.specs.declared.State.{State}
-use Rattle.group.specs.declared.Opened.{Opened}
 use Rattle.group.proofs.unopened.Statement.{statement}
 use Rattle.group.proofs.unopened.Tie as tie
 

@@ -1,10 +1,8 @@
-use mathlib.Core.Path.{_≡_, sym, ap, ap₂, _∙_}
+use mathlib.Core.Path.{sym, ap, _∙_}
 use mathlib.Core.List.{[], _∷_}
 use native.Mathlib.Omega.{arith}
 use borrow.Author.Needs.{needs}
-use Rattle.refusal.specs.Answer.{Answer, accepted, inTurn}
 use Rattle.text.specs.Number.{ofNumber, readNumber}
-use Rattle.text.specs.Line.{field}
 use Rattle.text.proofs.Reading.{number-within}
 use Rattle.heartbeat.proofs.Fields.{next-field, took, stops}
 use Rattle.heartbeat.proofs.from_tiebreaker.Statement.{statement}

@@ -1,11 +1,4 @@
-use mathlib.Core.Path.{_≡_}
-use Prim.Native.Nat.{ℕ, _+_, _<_, _≤_, _^_}
 use native.Mathlib.Omega.{arith}
-use lib.Dec.{lit≤}
-use lib.ListN.{length}
-use Rattle.text.specs.Digits.{digits}
-use Rattle.text.proofs.Digits.{digits-few}
-use Rattle.server.specs.declared.Word.{Word}
 use Rattle.server.specs.declared.Word.the-variants as word
 use Rattle.server.specs.Words.{wordBytes}
 use Rattle.lines.proofs.Pieces.{few, line-long, word-short}

@@ -1,10 +1,7 @@
-use Prim.Native.Nat.{ℕ, _+_, _<_, _≤_, _^_}
-use mathlib.Core.Path.{_≡_}
 use native.Mathlib.Omega.{arith}
-use lib.ListN.{length, length-append}
+use lib.ListN.{length-append}
 use Rattle.text.specs.Digits.{digits}
 use Rattle.text.specs.Words.{bytes}
-use Rattle.text.proofs.Digits.{digits-few}
 use Rattle.lines.proofs.Pieces.{few}
 use borrow.Author.Needs.{needs}
 use Rattle.lines.proofs.refused_length.Statement.{statement}

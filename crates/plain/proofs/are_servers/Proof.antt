@@ -1,11 +1,11 @@
 use mathlib.Core.Path.{sym, _∙_}
-use Rattle.frame.proofs.Words.{not-so, not-some}
+use Rattle.places.proofs.Words.{not-so, not-some}
 use Prim.Native.Nat.{_-_}
 use native.Mathlib.Omega.{arith}
 use borrow.Author.Needs.{needs}
 use Rattle.lists.proofs.Cases.{length-mapped}
 use Rattle.plain.specs.Plain.{isServer, noServer}
-use Rattle.plain.proofs.Loops.{Passed, test-begin, test-turn, test-fails, test-end}
+use Rattle.lists.proofs.EachLoop.{Passed, test-begin, test-turn, test-fails, test-end}
 use Rattle.plain.proofs.are_servers.Statement.{statement}
 use Rattle.plain.proofs.are_servers.Tie as tie
 

@@ -4,7 +4,7 @@ use borrow.Author.Needs.{needs}
 use Rattle.lists.proofs.Cases.{length-mapped}
 use Rattle.server.specs.Server.{absent}
 use Rattle.plain.specs.Plain.{plainServer}
-use Rattle.plain.proofs.Loops.{Made, make-begin, make-turn, make-end}
+use Rattle.lists.proofs.EachLoop.{Made, make-begin, make-turn, make-end}
 use Rattle.plain.proofs.plain_servers.Statement.{statement}
 use Rattle.plain.proofs.plain_servers.Tie as tie
 

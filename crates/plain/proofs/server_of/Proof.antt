@@ -6,4 +6,4 @@ returns : tie.Need-returns
 returns c = rw (c .before .role-of .ensures)
 
 pub server-of-spec : {M : Type 1} → statement M
-server-of-spec = tie.close (tie.spec (λ c κs. search needs) returns)
+server-of-spec = tie.close (tie.spec (λ c. search needs) (λ c κs. search needs) returns)

@@ -1,7 +1,6 @@
 use mathlib.Core.Path.{ap₂, _∙_}
-use Prim.Native.Nat.{_<_}
 use native.Mathlib.Omega.{arith}
-use Rattle.server.specs.Verbs.{cell, ofCell}
+use Rattle.server.specs.Verbs.{cell}
 use Rattle.server.proofs.Table.{role-below, verb-below, cell-right, cell-small}
 use borrow.Author.Needs.{needs}
 use Rattle.server.proofs.entered.Statement.{statement}
@@ -25,6 +24,7 @@ entered-spec =
     tie.close
     (tie.spec
     (λ c κs. search needs)
+    (λ c. omega (arith, c .role-number .ensures, role-below (c .before .args .role)))
     (λ c κs. search needs)
     cell-requires
     returns)

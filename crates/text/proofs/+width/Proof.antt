@@ -5,7 +5,6 @@ use borrow.Author.Needs.{needs}
 use mathlib.Core.Path.{refl, sym}
 use borrow.Fn.Kinds.{In}
 use borrow.Fn.PlainCycle.{Measures, is, falls, and}
-use lib.Dec.{lit<}
 use Rattle.text.proofs.Digits.{length-one, length-more, width-few}
 use Rattle.text.proofs.width.Reads as width
 use Rattle.text.proofs.width.Kinds as width-kinds

@@ -1,7 +1,5 @@
-use mathlib.Core.Path.{_≡_, sym, ap}
 use native.Mathlib.Omega.{arith}
-use Rattle.server.specs.declared.Period.{Period}
-use Rattle.frame.specs.Words.{serversOf}
+use Rattle.places.specs.Words.{serversOf}
 use Rattle.frame.specs.Answers.{stateOf}
 use Rattle.verbs.proofs.Acting.{verb-allowed, verb-refused}
 use borrow.Author.Needs.{needs}

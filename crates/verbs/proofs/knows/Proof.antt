@@ -1,5 +1,5 @@
 use mathlib.Core.Path.{_∙_}
-use Rattle.frame.specs.Words.{serversOf}
+use Rattle.places.specs.Words.{serversOf}
 use Rattle.frame.specs.Answers.{stateOf}
 use Rattle.verbs.proofs.Acting.{known-by}
 use borrow.Author.Needs.{needs}

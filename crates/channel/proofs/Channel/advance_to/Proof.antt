@@ -1,6 +1,5 @@
 use Rattle.channel.specs.Answers.{state}
 use mathlib.Core.Path.{refl, sym, _∙_}
-use native.Mathlib.Omega.{arith}
 use borrow.Author.Tests.{lt-ltb, le-ltb}
 use Rattle.lists.proofs.Cases.{chosen, other}
 use Rattle.group.specs.Advance.{timeRefusal, timeOutcome}

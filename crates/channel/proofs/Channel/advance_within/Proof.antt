@@ -1,9 +1,7 @@
-use mathlib.Core.Path.{refl, sym, _∙_}
-use native.Mathlib.Omega.{arith}
-use borrow.Author.Tests.{lt-ltb, le-ltb, ne-eqb, eq-eqb}
-use lib.ListN.{length}
+use mathlib.Core.Path.{_∙_}
+use borrow.Author.Tests.{lt-ltb, le-ltb}
 use Rattle.lists.proofs.Cases.{chosen, other}
-use Rattle.group.specs.Advance.{timeRefusal, withinGoes, withinOutcome}
+use Rattle.group.specs.Advance.{timeRefusal}
 use Rattle.channel.proofs.Answering.{stays-refused, within-goes}
 use borrow.Author.Needs.{needs}
 use Rattle.channel.proofs.Channel.advance_within.Statement.{statement}

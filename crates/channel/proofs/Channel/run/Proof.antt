@@ -1,7 +1,3 @@
-use mathlib.Core.Path.{_≡_, ap, sym, subst}
-use Rattle.group.specs.Answers.{Gives}
-use Rattle.channel.specs.declared.Channel.{Channel}
-use Rattle.channel.specs.Answers.{state}
 use borrow.Author.Needs.{needs}
 use Rattle.channel.proofs.Channel.run.Statement.{statement}
 use Rattle.channel.proofs.Channel.run.Tie as tie

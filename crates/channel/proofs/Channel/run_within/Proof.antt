@@ -1,5 +1,4 @@
-use mathlib.Core.Path.{_≡_, refl, ap, sym}
-use native.Mathlib.Omega.{arith}
+use mathlib.Core.Path.{refl}
 use Rattle.channel.specs.Answers.{state}
 use Rattle.channel.proofs.Answering.{within-later}
 use borrow.Author.Needs.{needs}

@@ -1,7 +1,6 @@
 use mathlib.Core.Path.{_∙_, sym, ap}
 use borrow.Author.Needs.{needs}
 use Rattle.server.specs.Period.{ofPeriod}
-use Rattle.group.specs.Answers.{Opens}
 use Rattle.group.proofs.Opening.{period-is, badly, opens-not}
 use Rattle.group.proofs.State.fresh.Statement.{statement}
 use Rattle.group.proofs.State.fresh.Tie as tie

@@ -1,8 +1,4 @@
-use mathlib.Core.Path.{ap}
 use borrow.Author.Needs.{needs}
-use lib.ListN.{replicate}
-use Rattle.server.specs.declared.Server.{Server}
-use Rattle.group.specs.declared.Table.{Table}
 use Rattle.group.proofs.Table.empty.Statement.{statement}
 use Rattle.group.proofs.Table.empty.Tie as tie
 

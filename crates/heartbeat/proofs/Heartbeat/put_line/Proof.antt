@@ -1,6 +1,4 @@
-use mathlib.Core.Path.{_∙_, ap}
 use borrow.Author.Needs.{needs}
-use Rattle.text.specs.Digits.{digits}
 use Rattle.text.proofs.Writing.{first-piece, chain}
 use Rattle.heartbeat.specs.Heartbeat.{heartbeatLine}
 use Rattle.heartbeat.proofs.Heartbeat.put_line.Statement.{statement}

@@ -1,7 +1,6 @@
 use mathlib.Core.Path.{sym}
 use borrow.Author.Tests.{lt-leb, le-leb}
 use lib.Dec.{leb}
-use native.Mathlib.Omega.{arith}
 use Rattle.lists.proofs.Cases.{chosen, other, and-true, and-left, and-right}
 use Rattle.server.specs.Period.{takePeriod}
 use borrow.Author.Needs.{needs}

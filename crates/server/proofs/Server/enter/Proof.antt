@@ -1,4 +1,3 @@
-use native.Mathlib.Omega.{arith}
 use Rattle.server.proofs.Acting.{allowed, barred}
 use borrow.Author.Needs.{needs}
 use Rattle.server.proofs.Server.enter.Statement.{statement}

@@ -1,11 +1,10 @@
-use mathlib.Core.Path.{sym, _∙_}
+use mathlib.Core.Path.{sym}
 use Prim.Native.Nat.{suc}
 use lib.Dec.{leb}
 use native.Mathlib.Omega.{arith}
 use borrow.Author.Needs.{needs}
 use borrow.Author.Tests.{le-leb, lt-leb, eq-eqb, ne-eqb}
 use Rattle.lists.proofs.Cases.{chosen, other, and-true, and-left, and-right}
-use Rattle.lists.proofs.Parts.{upTo-le}
 use Rattle.text.specs.Line.{readLine}
 use Rattle.text.proofs.Line.read.Statement.{statement}
 use Rattle.text.proofs.Line.read.Tie as tie

@@ -1,0 +1,14 @@
+-- Roles. Assumes nothing.
+use mathlib.Core.Bool.{Bool, not, _&&_}
+use mathlib.Core.Path.{_≡_, refl}
+use Rattle.server.specs.declared.Role.{Role}
+use Rattle.server.specs.declared.Role.the-variants as role
+use Rattle.places.specs.Roles.{takesPart, stillIn}
+
+pub still-by : (r : Role) (b : Bool) → (not (takesPart r) && not b) ≡ stillIn r b
+still-by role.Down b = refl
+still-by role.Idle b = refl
+still-by role.Sync b = refl
+still-by role.Backup b = refl
+still-by role.Prospect b = refl
+still-by role.Primary b = refl

@@ -1,0 +1,24 @@
+use mathlib.Core.Path.{_≡_, refl, _∙_, ap, sym}
+use native.Mathlib.Omega.{arith}
+use lib.ListN.{length}
+use lib.Seq.{set-out}
+use Rattle.places.proofs.Words.{long-of}
+use borrow.Author.Needs.{needs}
+use Rattle.places.proofs.put_held.Statement.{statement}
+use Rattle.places.proofs.put_held.Tie as tie
+
+store-requires : tie.Need-store-requires
+store-requires c κs =
+    let long : length (c .before .before .args .held) ≡ 80 = search needs in
+    (ap length (c .before .before .pre) ∙ long, c .before .if1 .taken)
+
+returns : tie.Need-returns
+returns c =
+    let long : length (c .before .before .before .args .held) ≡ 80 = search needs in
+    (c .store .ensures .0 ∙ sym (ap length (c .before .before .before .pre) ∙ long), c .store .ensures .1)
+
+returns-2 : tie.Need-returns-2
+returns-2 c = (refl, sym (set-out _ _ _ (omega (arith, c .if1 .left, long-of (c .before .args .words .now)))))
+
+pub put-held-spec : {M : Type 1} → statement M
+put-held-spec = tie.close (tie.spec store-requires returns returns-2)

@@ -1,0 +1,292 @@
+// Servers at their places, as numbers: which place hears which, and which comes first.
+use group::Table;
+use server::Role;
+use server::Server;
+ghost use mathlib.Core.Path.{_≡_};
+ghost use mathlib.Core.Bool.{Bool};
+ghost use Prim.Native.Nat.{_<_};
+ghost use lib.ListN.{length, getD, set};
+ghost use Rattle.lists.specs.Choice.{choose};
+ghost use Rattle.server.specs.Server.{absent};
+ghost use Rattle.group.specs.Table.{placeIn};
+ghost use Rattle.group.specs.Hearing.{isPlace};
+ghost use Rattle.places.specs.Roles.{isBackup, isProspect, isPrimary, takesPart, isStill};
+ghost use Rattle.places.specs.Words.{roleOf, rankNumber, sendingNumber, serverOf, serversOf};
+ghost use Rattle.places.specs.Order.{overBy, comesBy, betterOf, hearsAt};
+
+// ---- roles
+
+pub fn is_backup(role: Role) -> bool
+    ensures { λ r. ⌜ r ≡ isBackup role ⌝ }
+{
+    match role {
+        Role::Down => false,
+        Role::Idle => false,
+        Role::Sync => false,
+        Role::Backup => true,
+        Role::Prospect => false,
+        Role::Primary => false,
+    }
+}
+
+pub fn is_prospect(role: Role) -> bool
+    ensures { λ r. ⌜ r ≡ isProspect role ⌝ }
+{
+    match role {
+        Role::Down => false,
+        Role::Idle => false,
+        Role::Sync => false,
+        Role::Backup => false,
+        Role::Prospect => true,
+        Role::Primary => false,
+    }
+}
+
+pub fn is_primary(role: Role) -> bool
+    ensures { λ r. ⌜ r ≡ isPrimary role ⌝ }
+{
+    match role {
+        Role::Down => false,
+        Role::Idle => false,
+        Role::Sync => false,
+        Role::Backup => false,
+        Role::Prospect => false,
+        Role::Primary => true,
+    }
+}
+
+// Hears, and has a timer.
+pub fn takes_part(role: Role) -> bool
+    ensures { λ r. ⌜ r ≡ takesPart role ⌝ }
+{
+    match role {
+        Role::Down => false,
+        Role::Idle => false,
+        Role::Sync => false,
+        Role::Backup => true,
+        Role::Prospect => true,
+        Role::Primary => true,
+    }
+}
+
+// Neither hears nor has a timer, and sent nothing.
+pub fn is_still(s: Server) -> bool
+    ensures { λ r. ⌜ r ≡ isStill s ⌝ }
+{
+    let role = s.role;
+    !takes_part(role) & !s.sent_any()
+}
+
+// ---- servers as numbers
+
+// The role of a number; from 5 on, primary.
+pub fn role_of(n: u32) -> Role
+    ensures { λ r. ⌜ r ≡ roleOf n ⌝ }
+{
+    match n {
+        0 => Role::Down,
+        1 => Role::Idle,
+        2 => Role::Sync,
+        3 => Role::Backup,
+        4 => Role::Prospect,
+        _ => Role::Primary,
+    }
+}
+
+// The greater the number, the higher the server.
+pub fn rank_number(s: Server) -> u32
+    ensures { λ r. ⌜ (r ≡ rankNumber s) × ((s .identity < 65536) × (s .priority < 256)) ⌝ }
+{
+    (s.priority as u32) * 65536 + (s.identity as u32)
+}
+
+fn flag(set: bool) -> u32
+    ensures { λ r. ⌜ r ≡ choose set 1 0 ⌝ }
+{
+    if set { 1 } else { 0 }
+}
+
+// 0 where nothing was sent.
+pub fn sending_number(s: Server) -> u32
+    ensures { λ r. ⌜ (r ≡ sendingNumber s) × ((s .beats < 256) × (s .pass < 65536)) ⌝ }
+{
+    ((s.beats as u32) * 2 + flag(s.reveal)) * 65536 + (s.pass as u32)
+}
+
+fn server_of(head: u32, silence: u32, beat: u32, prospect: u32, sending: u32) -> Server
+    ensures { λ r. ⌜ r ≡ serverOf head silence beat prospect sending ⌝ }
+{
+    Server {
+        identity: (head % 65536) as u16,
+        priority: (head / 65536 % 256) as u8,
+        role: role_of(head / 16777216),
+        silence,
+        beat,
+        prospect,
+        beats: (sending / 131072 % 256) as u8,
+        reveal: sending / 65536 % 2 == 1,
+        pass: (sending % 65536) as u16,
+    }
+}
+
+// The server of place i.
+fn server_at(words: &[u32; 80], i: usize) -> Server
+    requires { ⌜ i < 16 ⌝ }
+    ensures { λ r. ⌜ r ≡ getD (serversOf (now (words .entry))) i absent ⌝ }
+{
+    let k = 5 * i;
+    server_of(
+        words[k],
+        words[k + 1],
+        words[k + 2],
+        words[k + 3],
+        words[k + 4],
+    )
+}
+
+// The server of place i replaced.
+fn store(words: &mut [u32; 80], i: usize, s: Server)
+    requires { ⌜ (length (now words) ≡ 80) × (i < 16) ⌝ }
+    ensures { λ _. ⌜ (length (now (words .exit)) ≡ 80) × (serversOf (now (words .exit)) ≡ set (serversOf (now (words .entry))) i s) ⌝ }
+{
+    let k = 5 * i;
+    let role = s.role;
+    let head = server::role_number(role) * 16777216 + rank_number(s);
+    let sending = sending_number(s);
+    words[k] = head;
+    words[k + 1] = s.silence;
+    words[k + 2] = s.beat;
+    words[k + 3] = s.prospect;
+    words[k + 4] = sending;
+}
+
+// The servers as numbers.
+pub fn words_of(servers: [Server; 16]) -> [u32; 80]
+    ensures { λ r. ⌜ serversOf r ≡ servers ⌝ }
+{
+    let mut words: [u32; 80] = [0; 80];
+    let mut i: usize = 0;
+    while i < Table::SERVERS {
+        store(&mut words, i, servers[i]);
+        i += 1;
+    }
+    words
+}
+
+// The servers of the numbers.
+pub fn servers_of(words: &[u32; 80]) -> [Server; 16]
+    ensures { λ r. ⌜ r ≡ serversOf (now (words .entry)) ⌝ }
+{
+    let nobody = Server::absent();
+    let mut servers = [nobody; 16];
+    let mut i: usize = 0;
+    while i < Table::SERVERS {
+        let s = server_at(words, i);
+        servers[i] = s;
+        i += 1;
+    }
+    servers
+}
+
+// The server of place i; nobody beyond the last place.
+pub fn server(words: &[u32; 80], i: usize) -> Server
+    ensures { λ r. ⌜ r ≡ getD (serversOf (now (words .entry))) i absent ⌝ }
+{
+    if i < Table::SERVERS {
+        server_at(words, i)
+    } else {
+        Server::absent()
+    }
+}
+
+// The server of place i replaced; nothing beyond the last place. `held` is what the numbers are: passed by value, it has their length.
+fn put_held(words: &mut [u32; 80], held: [u32; 80], i: usize, s: Server)
+    requires { ⌜ now words ≡ held ⌝ }
+    ensures { λ _. ⌜ (length (now (words .exit)) ≡ length (now (words .entry))) × (serversOf (now (words .exit)) ≡ set (serversOf (now (words .entry))) i s) ⌝ }
+{
+    if i < Table::SERVERS {
+        store(words, i, s);
+    }
+}
+
+// The server of place i replaced; nothing beyond the last place.
+pub fn put(words: &mut [u32; 80], i: usize, s: Server)
+    ensures { λ _. ⌜ (length (now (words .exit)) ≡ length (now (words .entry))) × (serversOf (now (words .exit)) ≡ set (serversOf (now (words .entry))) i s) ⌝ }
+{
+    let held = *words;
+    put_held(words, held, i, s);
+}
+
+// The place of an identity; beyond the last place where there is none. Of 0 the first empty place.
+pub fn place_in(words: &[u32; 80], identity: u16) -> usize
+    ensures { λ r. ⌜ r ≡ placeIn (serversOf (now (words .entry))) identity ⌝ }
+{
+    let mut i: usize = 0;
+    while i < Table::SERVERS {
+        let s = server_at(words, i);
+        if s.identity == identity {
+            return i;
+        }
+        i += 1;
+    }
+    i
+}
+
+// ---- who hears whom, and who comes first
+
+// Whether place j would hear what place i sends: another place, with a whole link.
+pub fn hears(whole: &[bool; 256], i: usize, j: usize) -> bool
+    ensures { λ r. ⌜ r ≡ hearsAt (now (whole .entry)) j i ⌝ }
+{
+    if (i < Table::SERVERS) & (j < Table::SERVERS) {
+        (i != j) & whole[Table::SERVERS * i + j]
+    } else {
+        false
+    }
+}
+
+// Place i comes after the place last; so it does where there is none (16 or more).
+fn under_last(ranks: &[u32; 16], last: usize, i: usize) -> bool
+    requires { ⌜ i < 16 ⌝ }
+    ensures { λ r. ⌜ r ≡ choose (isPlace last) (overBy (now (ranks .entry)) last i) Bool.true ⌝ }
+{
+    if last < Table::SERVERS {
+        ranks[last] > ranks[i]
+    } else {
+        true
+    }
+}
+
+// Place i comes before the best so far; so it does where there is none (16 or more).
+fn over_best(ranks: &[u32; 16], best: usize, i: usize) -> bool
+    requires { ⌜ i < 16 ⌝ }
+    ensures { λ r. ⌜ r ≡ choose (isPlace best) (overBy (now (ranks .entry)) i best) Bool.true ⌝ }
+{
+    if best < Table::SERVERS {
+        ranks[i] > ranks[best]
+    } else {
+        true
+    }
+}
+
+fn better_of(ranks: &[u32; 16], last: usize, best: usize, i: usize) -> usize
+    requires { ⌜ i < 16 ⌝ }
+    ensures { λ r. ⌜ r ≡ choose (comesBy (now (ranks .entry)) Bool.true last best i) i best ⌝ }
+{
+    if under_last(ranks, last, i) & over_best(ranks, best, i) {
+        i
+    } else {
+        best
+    }
+}
+
+// Of place i, which is heard, and the best so far: the one that is heard sooner after the place last. Where i is no place (16 or more), the best so far.
+pub fn better(ranks: &[u32; 16], last: usize, best: usize, i: usize) -> usize
+    ensures { λ r. ⌜ r ≡ betterOf (now (ranks .entry)) last best i ⌝ }
+{
+    if i < Table::SERVERS {
+        better_of(ranks, last, best, i)
+    } else {
+        best
+    }
+}
