@@ -1,4 +1,4 @@
-use Rattle.lists.proofs.Cases.{bit-small}
+use Rattle.lists.proofs.Cases.{bit-small, less, on}
 -- The most bytes that a frame can write. Assumes nothing.
 use mathlib.Core.Bool.{Bool, true, false}
 use mathlib.Core.Path.{_≡_, ap, _∙_}
@@ -9,7 +9,6 @@ use native.Mathlib.Nat.{suc-mul}
 use lib.Dec.{eqb}
 use lib.ListN.{length, getD, replicate, length-append, length-replicate}
 use Rattle.lists.specs.Choice.{choose}
-use Rattle.lists.proofs.Cases.{less, on}
 use Rattle.text.proofs.Digits.{digits-few}
 use Rattle.heartbeat.specs.declared.Heartbeat.{Heartbeat}
 use Rattle.server.specs.declared.Said.{Said}

@@ -14,11 +14,10 @@ use Rattle.server.specs.declared.Timed.{Timed}
 use Rattle.server.specs.Server.{absent, cleared}
 use Rattle.server.specs.Timers.{timed}
 use Rattle.group.specs.declared.State.{State}
-use Rattle.frame.specs.Steps.{Ran}
+use Rattle.frame.specs.Steps.{Ran, Out, Does, Turns, anySent, Runs, ticksIn, TicksAt, TicksAll, tickLines, resting}
 use Rattle.frame.specs.declared.Told.{Told}
 use Rattle.group.specs.Hearing.{inbox}
 use Rattle.group.specs.Frame.{heardAll, heardLines, timedLines, hearing, turned, turnLines, turnsLines, advanced, frameLines}
-use Rattle.frame.specs.Steps.{Out, Does, Turns, anySent, Runs, ticksIn, TicksAt, TicksAll, tickLines, resting}
 use Rattle.frame.proofs.Quiet.{no-timer, ticks-frame}
 use Rattle.frame.proofs.Hearings.{no-ticks}
 

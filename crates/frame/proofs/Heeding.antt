@@ -25,8 +25,7 @@ use Rattle.server.specs.Words.{said}
 use Rattle.lines.specs.Lines.{linesOf}
 use Rattle.group.specs.Frame.{heardAll, heardLines}
 use Rattle.places.specs.Words.{rankNumber}
-use Rattle.places.specs.Roles.{isBackup, stillIn, isStill}
-use Rattle.places.specs.Roles.{isProspect, takesPart}
+use Rattle.places.specs.Roles.{isBackup, isStill, isProspect, takesPart}
 use Rattle.places.specs.Order.{overBy, comesBy, heardBy}
 use Rattle.frame.specs.Steps.{Out, Hears, heedsOnly, SenderList, senderOf, bestBy, nextBy, sendersBy, sentOf}
 use Rattle.places.proofs.Words.{not-so}

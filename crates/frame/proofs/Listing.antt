@@ -1,4 +1,4 @@
-use Rattle.lists.proofs.Cases.{bit-small}
+use Rattle.lists.proofs.Cases.{bit-small, tested, less, on, chosen, other}
 -- The list of those who sent, and of all ranks. Assumes nothing.
 use mathlib.Core.Bool.{false}
 use mathlib.Core.Path.{_≡_, refl, sym, ap, _∙_}
@@ -12,7 +12,6 @@ use lib.Dec.{eqb}
 use lib.ListN.{length, take, set, getD, replicate, length-set}
 use lib.Seq.{take-set-le, take-suc-set, getD-set-other, getD-set-same}
 use Rattle.lists.specs.Choice.{choose}
-use Rattle.lists.proofs.Cases.{tested, less, on, chosen, other}
 use Rattle.server.specs.declared.Server.{Server}
 use Rattle.server.specs.Server.{absent, sentAny}
 use Rattle.places.specs.Words.{rankNumber, sendingNumber}

@@ -19,12 +19,11 @@ use Rattle.server.specs.declared.Role.the-variants.{Down}
 use Rattle.server.specs.declared.Server.{Server}
 use Rattle.server.specs.Server.{absent, rankOf, sentBy, sentAny}
 use Rattle.group.specs.declared.State.{State}
-use Rattle.frame.specs.Steps.{SenderList}
+use Rattle.frame.specs.Steps.{SenderList, sentBelow, senderOf, Listed, Numbers, Lists, bestBy, heardOf, bestIn, Near, nextBy, sendersBy, sentOf, inboxBy}
 use Rattle.group.specs.Table.{most}
 use Rattle.group.specs.Hearing.{place, whole, noPlace, hearsFrom, over, isPlace, comes, nextAmong, nextSender, sendersAfter, sentByAll, inbox}
 use Rattle.places.specs.Words.{rankNumber, sendingNumber}
 use Rattle.places.specs.Order.{overBy, comesBy, heardBy}
-use Rattle.frame.specs.Steps.{sentBelow, senderOf, Listed, Numbers, Lists, bestBy, heardOf, bestIn, Near, nextBy, sendersBy, sentOf, inboxBy}
 use Rattle.places.proofs.Words.{parts}
 
 -- ---- the numbers of the servers

@@ -1,5 +1,5 @@
 -- What one frame of the servers answers.
-use mathlib.Core.Bool.{Bool, true, false, not, _&&_}
+use mathlib.Core.Bool.{Bool, not, _&&_}
 use mathlib.Core.Path.{_≡_}
 use mathlib.Core.List.{List}
 use Prim.Native.Nat.{ℕ, _+_}
@@ -8,10 +8,7 @@ use lib.ListN.{length}
 use Rattle.lists.specs.Choice.{choose}
 use Rattle.lists.specs.Splice.{splice, fits}
 use Rattle.server.specs.declared.Period.{Period}
-use Rattle.server.specs.declared.Role.{Role}
-use Rattle.server.specs.declared.Role.the-variants.{Down, Idle, Sync, Backup, Prospect, Primary}
 use Rattle.server.specs.declared.Server.{Server}
-use Rattle.server.specs.Server.{sentAny}
 use Rattle.lines.specs.Lines.{placeAfter}
 use Rattle.group.specs.declared.State.{State}
 use Rattle.group.specs.Frame.{advanced, frameLines}

@@ -21,7 +21,7 @@ use Rattle.server.specs.Timers.{aged, timed}
 use Rattle.lines.specs.Lines.{placeAfter}
 use Rattle.group.specs.declared.State.{State}
 use Rattle.group.specs.Table.{most}
-use Rattle.group.specs.Hearing.{linkOf, isPlace}
+use Rattle.group.specs.Hearing.{isPlace}
 use Rattle.group.specs.Frame.{heardAll, heardLines, timedLines, advanced, frameLines}
 use Rattle.frame.specs.declared.Told.{Told}
 use Rattle.places.specs.Words.{rankNumber, sendingNumber}

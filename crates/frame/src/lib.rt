@@ -16,18 +16,12 @@ ghost use lib.ListN.{length, replicate, take, getD, set};
 ghost use Rattle.lists.specs.Choice.{choose};
 ghost use Rattle.lists.specs.Lists.{mapFrom};
 ghost use Rattle.server.specs.Server.{absent, setSilence, cleared, passOf, sentBy};
-ghost use Rattle.server.specs.Verbs.{roleNumber};
 ghost use Rattle.server.specs.Words.{said};
 ghost use Rattle.server.specs.Timers.{aged, timed};
-ghost use Rattle.lines.specs.Lines.{placeAfter, linesOf};
-ghost use Rattle.group.specs.Table.{placeIn};
-ghost use Rattle.group.specs.Hearing.{isPlace};
+ghost use Rattle.lines.specs.Lines.{linesOf};
 ghost use Rattle.group.specs.Frame.{timedLines, frameLines};
-ghost use Rattle.places.specs.Words.{roleOf, rankNumber, sendingNumber, serverOf, serversOf};
-ghost use Rattle.places.specs.Roles.{isBackup, isPrimary, isStill};
+ghost use Rattle.places.specs.Words.{serversOf};
 ghost use Rattle.frame.specs.Answers.{stateOf, Plays, Counts};
-ghost use Rattle.places.specs.Roles.{isProspect, takesPart};
-ghost use Rattle.places.specs.Order.{overBy, comesBy};
 ghost use Rattle.frame.specs.Steps.{Out, Hears, Does, staysUnder, heedsOnly, JustListens, onlyListens, senderOf, Ranked, Still, bestIn, Near, inboxBy, Deaf, clearing, Listed, Numbers, Sends, Lists, Turns, ticksIn, Runs, TicksAt, TicksAll, Loud, mostBytes, HeardAlso, Hearers, clamped};
 
 // The lines of an event, written or only counted.

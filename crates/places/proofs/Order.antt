@@ -1,11 +1,10 @@
 -- Places and links. Assumes nothing.
-use mathlib.Core.Bool.{Bool, true, _&&_}
-use mathlib.Core.Path.{_≡_, ap₂, _∙_}
+use mathlib.Core.Bool.{Bool, _&&_}
+use mathlib.Core.Path.{_≡_, ap₂}
 use mathlib.Core.List.{List}
 use Prim.Native.Nat.{ℕ, _<_}
 use borrow.Author.Tests.{lt-ltb}
 use Rattle.lists.proofs.Cases.{chosen}
-use Rattle.group.specs.Hearing.{isPlace}
 use Rattle.places.specs.Order.{heardBy, hearsAt}
 
 -- of two places it is the link alone

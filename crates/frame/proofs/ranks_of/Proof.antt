@@ -1,6 +1,5 @@
-use mathlib.Core.Path.{_∙_, ap}
+use mathlib.Core.Path.{_∙_, ap, subst}
 use Prim.Native.Nat.{_-_, _<_}
-use mathlib.Core.Path.{subst}
 use native.Mathlib.Omega.{arith}
 use Rattle.server.specs.declared.Server.{Server}
 use Rattle.places.specs.Words.{serversOf, rankNumber}

@@ -3,7 +3,6 @@ use native.Mathlib.Omega.{arith}
 use borrow.Author.Tests.{ltb-true}
 use lib.Dec.{ltb}
 use Rattle.lists.proofs.Cases.{chosen, other, fst-true, snd-true}
-use borrow.Author.Needs.{needs}
 use Rattle.places.proofs.hears.Statement.{statement}
 use Rattle.places.proofs.hears.Tie as tie
 
