@@ -1,6 +1,7 @@
 //! The same days through the model in place and through the engine, and how long each takes: first
 //! as lists of calls, in one process, then as files, each through two programs. In a list each step
-//! is lent 50,000,000 bytes, and the engine advances within the slice, as a day does.
+//! is lent 50,000,000 bytes, and the engine advances within the slice, as a day does. Between the
+//! two, lists of single calls on a channel by value, one frame at a time.
 
 #![allow(dead_code)]
 
@@ -47,6 +48,17 @@ extern "C" {
         out: *mut u8,
         out_len: usize,
     ) -> u32;
+    fn bench_calls(
+        servers: *const u64,
+        servers_len: usize,
+        period: u32,
+        calls: *const u64,
+        calls_len: usize,
+        out: *mut u8,
+        out_len: usize,
+        numbers: *mut u8,
+        numbers_len: usize,
+    ) -> u32;
 }
 
 /// A day as the engine takes it: a table, a period, and a number for each step.
@@ -56,6 +68,9 @@ struct Day {
     period: u32,
     steps: Vec<u64>,
 }
+
+/// The number of an advance by one frame.
+const FRAME: u64 = 8;
 
 impl Day {
     fn new(calls: &[Call]) -> Day {
@@ -76,8 +91,9 @@ impl Day {
                     let about = u64::from(second) * 65_536 + u64::from(first);
                     (about, kind.expect("one of all") as u64)
                 }
+                What::Frame => (0, FRAME),
                 What::Time { time } => (u64::from(time), 9),
-                What::Frame | What::Refused { .. } => panic!("no case has such a call"),
+                What::Refused { .. } => panic!("no case has such a call"),
             };
             day.steps.push(10 * about + kind);
         }
@@ -96,6 +112,41 @@ impl Day {
                 self.steps.len(),
                 out.as_mut_ptr(),
                 out.len(),
+            )
+        }
+    }
+}
+
+/// The same list as single calls on a channel by value: two numbers a call, the second of which is
+/// the length of its slice.
+struct Singles {
+    day: Day,
+    calls: Vec<u64>,
+    numbers: Vec<u8>,
+}
+
+impl Singles {
+    fn new(calls: &[Call]) -> Singles {
+        let day = Day::new(calls);
+        let calls: Vec<u64> = day.steps.iter().flat_map(|&step| [step, MOST_LENT as u64]).collect();
+        let numbers = vec![0; day.steps.len()];
+        Singles { day, calls, numbers }
+    }
+
+    /// The frame that they end in. The number of each call stands in `numbers` afterwards.
+    fn run(&mut self, out: &mut [u8]) -> u32 {
+        // SAFETY: the pointers and lengths are those of slices, and the function asks for no more.
+        unsafe {
+            bench_calls(
+                self.day.servers.as_ptr(),
+                self.day.servers.len(),
+                self.day.period,
+                self.calls.as_ptr(),
+                self.calls.len(),
+                out.as_mut_ptr(),
+                out.len(),
+                self.numbers.as_mut_ptr(),
+                self.numbers.len(),
             )
         }
     }
@@ -131,6 +182,37 @@ fn time(calls: &[Call], ours: &mut [u8], theirs: &mut [u8]) -> Result<Row, Strin
         }
         if ended != text::LAST_FRAME {
             return Err(format!("the engine ends in frame {ended}"));
+        }
+        if ours != theirs {
+            return Err("the lent bytes differ".to_string());
+        }
+    }
+    fast::run(calls, theirs, |_, written| row.bytes += written.len() as u64);
+    Ok(row)
+}
+
+/// The same for single calls.
+fn time_singles(calls: &[Call], ours: &mut [u8], theirs: &mut [u8]) -> Result<Row, String> {
+    let mut singles = Singles::new(calls);
+    let count = singles.numbers.len();
+    ours.fill(b'.');
+    theirs.fill(b'.');
+    let mut row = Row { calls: count, bytes: 0, model: Duration::MAX, engine: Duration::MAX };
+    for _ in 0..ROUNDS {
+        let start = Instant::now();
+        let wanted = fast::run(calls, theirs, |_, _| {});
+        row.model = row.model.min(start.elapsed());
+
+        let start = Instant::now();
+        let ended = singles.run(ours);
+        row.engine = row.engine.min(start.elapsed());
+
+        if ended != text::LAST_FRAME {
+            return Err(format!("the engine ends in frame {ended}"));
+        }
+        // the model has answers to the table and to the fresh channel too
+        if !wanted.ends_with(&singles.numbers) {
+            return Err("the numbers differ".to_string());
         }
         if ours != theirs {
             return Err("the lent bytes differ".to_string());
@@ -181,9 +263,17 @@ fn time_programs(day: &[u8], file: &Path) -> Result<Row, String> {
     Ok(row)
 }
 
+/// The days, with their letters.
+fn days() -> impl Iterator<Item = (Case, &'static str)> {
+    Case::ALL.into_iter().zip(["a", "b", "c", "d"])
+}
+
 /// A line for each case, until one fails.
-fn table(mut row: impl FnMut(Case) -> Result<Row, String>) -> Result<(), String> {
-    for (case, letter) in Case::ALL.into_iter().zip(["a", "b", "c", "d"]) {
+fn table<C>(
+    cases: impl IntoIterator<Item = (C, &'static str)>,
+    mut row: impl FnMut(C) -> Result<Row, String>,
+) -> Result<(), String> {
+    for (case, letter) in cases {
         let Row { calls, bytes, model, engine } =
             row(case).map_err(|difference| format!("case {letter}: {difference}"))?;
         let [model, engine] = [model, engine].map(|time| time.as_secs_f64() * 1000.0);
@@ -198,10 +288,17 @@ fn tables(file: &Path) -> Result<(), String> {
     let mut theirs = vec![0; MOST_LENT];
     println!("lists of calls, the libraries in one process");
     println!("case    calls  bytes written   model ms  engine ms   ratio");
-    table(|case| time(&bench::list(case, text::LAST_FRAME), &mut ours, &mut theirs))?;
+    table(days(), |case| time(&bench::list(case, text::LAST_FRAME), &mut ours, &mut theirs))?;
+    println!(
+        "single calls on a channel, one frame at a time: an entry every 100 frames, and in each"
+    );
+    println!("case    calls  bytes written   model ms  engine ms   ratio");
+    table(bench::SINGLES, |gap| {
+        time_singles(&bench::frame_by_frame(gap, text::LAST_FRAME), &mut ours, &mut theirs)
+    })?;
     println!("days as files, a process for each: the program fast of the model, and sheet");
     println!("case    lines  bytes printed   model ms  engine ms   ratio");
-    table(|case| time_programs(&bench::day(case, text::LAST_FRAME), file))
+    table(days(), |case| time_programs(&bench::day(case, text::LAST_FRAME), file))
 }
 
 fn main() -> ExitCode {

@@ -167,7 +167,10 @@ typedef struct playout_heartbeat {
     uint8_t reveal;
 } playout_heartbeat; /* 6 bytes */
 
-/* The servers of a channel, in rising identity; empty places, of identity 0, come last. */
+/*
+ * The servers of a channel, in rising identity; empty places, of identity 0, come last. Made by
+ * `playout_table_empty` and `playout_table_add`.
+ */
 typedef struct playout_table {
     playout_server servers[16];
 } playout_table; /* 320 bytes */
@@ -349,7 +352,7 @@ playout_acted playout_front_act(playout_front *front, uint32_t verb, uint16_t to
 
 /*
  * The heartbeat that an event of this front sends, if any. `to` is the identity passed to, for
- * event 10. Refused with 2 (no such event, or the front does not decode).
+ * event 10. Refused with 2 (no such event, event 10 with `to` 0, or the front does not decode).
  */
 playout_sending playout_front_sends(playout_front front, uint32_t event, uint16_t to);
 
@@ -388,7 +391,7 @@ playout_written playout_heartbeat_write(playout_heartbeat heartbeat, uint8_t *ou
  * The frame that a label HH:MM:SS:FF names, 25 frames to a second. Refused with 3 (badly written,
  * or outside the day).
  */
-playout_timecode_answer playout_timecode_read(const uint8_t *label, size_t label_len);
+playout_timecode_answer playout_timecode_read(const uint8_t *time, size_t time_len);
 
 /*
  * The label of a frame, 11 bytes, into the slice. Gives how many bytes were written. Refused with 3
@@ -400,15 +403,16 @@ playout_written playout_timecode_write(uint32_t frame, uint8_t *out, size_t out_
 playout_table playout_table_empty(void);
 
 /*
- * The table with a server more, of this identity and priority. Refused with 2 (identity 0, or the
- * table does not decode), 5 (the identity is in the table already), 6 (a seventeenth server).
+ * The table with a server more, of this identity and priority. Refused with 2 (identity 0, or no
+ * table that `playout_table_empty` and this call made), 5 (the identity is in the table already), 6
+ * (a seventeenth server).
  */
 playout_table_added playout_table_add(playout_table table, uint16_t identity, uint8_t priority);
 
 /*
- * A channel of the table's servers at frame 0, with a period in frames; the table is one that
- * `playout_table_add` gave. Refused with 2 (a period that is not 2 to 250, or the table does not
- * decode), 6 (no server), 7 (a period below the number of servers).
+ * A channel of the table's servers at frame 0, all idle, with a period in frames. Refused with 2 (a
+ * period that is not 2 to 250, or no table that `playout_table_empty` and `playout_table_add`
+ * made), 6 (no server), 7 (a period below the number of servers).
  */
 playout_channel_opened playout_channel_fresh(playout_table table, uint32_t period);
 

@@ -30,6 +30,17 @@ impl Case {
     }
 }
 
+/// Single calls by their letters: the frames from one entry to the next.
+pub const SINGLES: [(u32, &str); 2] = [(100, "e"), (1, "f")];
+
+/// The list with a letter: a case, or single calls.
+pub fn lettered(letter: &str, last: u32) -> Option<Vec<Call>> {
+    match SINGLES.into_iter().find(|single| single.1 == letter) {
+        Some((gap, _)) => Some(frame_by_frame(gap, last)),
+        None => Case::read(letter).map(|case| list(case, last)),
+    }
+}
+
 /// The list of a case. A whole day has LAST_FRAME as its last frame; a smaller one cuts the day
 /// short.
 pub fn list(case: Case, last: u32) -> Vec<Call> {
@@ -159,9 +170,29 @@ fn apart(last: u32) -> Recorder {
     list
 }
 
+/// A list of single calls, no case of a day: 16 servers, P 16, one frame at a time, and an entry
+/// every `gap` frames.
+pub fn frame_by_frame(gap: u32, last: u32) -> Vec<Call> {
+    let (mut rng, mut list) = ready_from(u64::from(gap), 16, 16);
+    for time in 1..=last {
+        list.take_entries();
+        list.script.wait(1);
+        list.call(What::Frame);
+        if time % gap == 0 {
+            some_entry(&mut rng, &mut list.script);
+        }
+    }
+    list.take_entries();
+    list.calls
+}
+
 /// Servers with identities 1, 2 and so on and any priorities, all of them ready at frame 0.
 fn ready(case: Case, servers: u16, period: u32) -> (Rng, Recorder) {
-    let mut rng = Rng::new(case as u64 + 1);
+    ready_from(case as u64 + 1, servers, period)
+}
+
+fn ready_from(seed: u64, servers: u16, period: u32) -> (Rng, Recorder) {
+    let mut rng = Rng::new(seed);
     let table: Vec<(u16, u8)> =
         (1..=servers).map(|identity| (identity, rng.below(256) as u8)).collect();
     let mut list = Recorder::new(period, &table);

@@ -844,6 +844,15 @@ fn short_benchmarks_agree() {
     }
 }
 
+#[test]
+fn short_single_calls_agree() {
+    for (gap, last) in [(100, 20_000), (1, 10_000)] {
+        let calls = bench::frame_by_frame(gap, last);
+        assert_eq!(compare(&calls), None, "an entry every {gap} frames");
+        expect_run(&calls);
+    }
+}
+
 /// The day of a case as a file: what its calls write, and a line for each that is refused.
 #[test]
 fn short_benchmark_days_are_their_lists() {

@@ -39,8 +39,8 @@ const USAGE: &str = "usage: model sheet | fast | day SEED | long SERVERS PERIOD 
     lists         N short lists of calls made from a seed\n\
     calls         lists of calls on standard input, their answers on standard output\n\
     check-calls   the plain answers against fast, for lists on standard input\n\
-    bench-list    a whole day as a list of calls, case a, b, c or d\n\
-    bench-day     the same day as a file\n\
+    bench-list    a whole day as a list of calls, case a, b, c or d; or as single calls, e or f\n\
+    bench-day     a day of these as a file, a, b, c or d\n\
     time          the best of three runs of a case in place, the bytes it writes, and FNV-1a over\n\
     \x20             the number of each answer, as one byte, followed by the bytes written\n";
 
@@ -76,16 +76,16 @@ fn main() -> ExitCode {
         }
         (["calls"], _) => read_calls().and_then(|list| print_answers(&list)),
         (["check-calls"], _) => read_calls().and_then(|list| check_calls(&list)),
-        (["bench-list", case], _) => match bench::Case::read(case) {
-            Some(case) => print(&calls::write(&bench::list(case, text::LAST_FRAME))),
+        (["bench-list", case], _) => match bench::lettered(case, text::LAST_FRAME) {
+            Some(list) => print(&calls::write(&list)),
             None => return usage(),
         },
         (["bench-day", case], _) => match bench::Case::read(case) {
             Some(case) => print(&bench::day(case, text::LAST_FRAME)),
             None => return usage(),
         },
-        (["time", case], _) => match bench::Case::read(case) {
-            Some(case) => print(time(case).as_bytes()),
+        (["time", case], _) => match bench::lettered(case, text::LAST_FRAME) {
+            Some(list) => print(time(&list).as_bytes()),
             None => return usage(),
         },
         _ => return usage(),
@@ -131,9 +131,8 @@ fn check_calls(list: &[calls::Call]) -> io::Result<()> {
     }
 }
 
-fn time(case: bench::Case) -> String {
-    let list = bench::list(case, text::LAST_FRAME);
-    let (best, refused, sum) = bench::time(&list);
+fn time(list: &[calls::Call]) -> String {
+    let (best, refused, sum) = bench::time(list);
     let ms = best.as_secs_f64() * 1000.0;
     let calls = list.iter().filter(|call| call.what.is_call()).count();
     format!(

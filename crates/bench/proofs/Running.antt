@@ -1,5 +1,5 @@
 -- Steps one after the other. Assumes nothing.
-use mathlib.Core.Path.{_≡_, refl, sym, ap, ap₂, _∙_}
+use mathlib.Core.Path.{_≡_, refl, sym, ap, ap₂, subst, _∙_}
 use mathlib.Core.List.{List}
 use Prim.Native.Nat.{ℕ, suc, _+_, _≤_, _<_}
 use native.Mathlib.Numerals.{add-one}
@@ -13,7 +13,10 @@ use Rattle.group.specs.declared.State.{State}
 use Rattle.group.specs.Outcome.{Outcome, channelIn, sliceIn}
 use Rattle.group.specs.Table.{freshRefusal, fresh}
 use Rattle.group.specs.Answers.{noChannel, Gives}
-use Rattle.bench.specs.Bench.{tableOf, stepOf, OneStep, stateAfter, sliceAfter, DayRuns, opened, DayEnds}
+use Rattle.channel.specs.Answers.{state}
+use Rattle.calls.specs.declared.Ended.{Ended}
+use Rattle.calls.specs.Running.{RunsList}
+use Rattle.bench.specs.Bench.{tableOf, stepOf, OneStep, stateAfter, sliceAfter, DayRuns, opened, DayEnds, CallsEnd}
 
 -- the answer to one step
 pub one-step : {c : State} {n : ℕ} {d : List ℕ} {o : Outcome} {v : Verdict} {m : ℕ} {x : State} {d′ : List ℕ} → stepOf c n (length d) ≡ o → Gives c o d v m x d′ → OneStep c n d x d′
@@ -59,3 +62,10 @@ day-ends {t} {servers} {n} {ns} {d} {c} {x} {d′} e q v =
       frame = ap (λ (y : State). y .frame) (v .state ∙ ap (λ (y : State). stateAfter y ns d) from);
       slice = v .slice ∙ ap (λ (y : State). sliceAfter y ns d) from;
     }
+
+pub calls-end :
+    {t : Table} {servers : List ℕ} {n : ℕ} {ks d e : List ℕ} {r : Ended} {f : ℕ} {d′ e′ : List ℕ} → t ≡ tableOf servers →
+    f ≡ state (r .channel) .frame → RunsList t n ks d e r d′ e′ → CallsEnd servers n ks d e f d′ e′
+calls-end {t} {servers} {n} {ks} {d} {e} {r} {f} {d′} {e′} is at v =
+    let u = subst (λ (x : Table). RunsList x n ks d e r d′ e′) is v in
+    record { frame = at ∙ ap (λ (x : State). x .frame) (u .channel); numbers = u .numbers; bytes = u .bytes }

@@ -5,6 +5,7 @@ use Prim.Native.Nat.{ℕ, _/_, _%_}
 use lib.Dec.{eqb, ltb}
 use lib.ListN.{length}
 use Rattle.lists.specs.Choice.{choose}
+use Rattle.lists.specs.Splice.{splice}
 use Rattle.group.specs.declared.Table.{Table}
 use Rattle.group.specs.declared.State.{State}
 use Rattle.group.specs.Outcome.{Outcome, channelIn, sliceIn}
@@ -12,7 +13,9 @@ use Rattle.group.specs.Table.{empty, added, freshRefusal, fresh}
 use Rattle.group.specs.Verbs.{verbOutcome}
 use Rattle.group.specs.Advance.{withinGoes}
 use Rattle.group.specs.Answers.{noChannel}
+use Rattle.group.specs.Calls.{channelAfter, numbersOf}
 use Rattle.calls.specs.Encoding.{verbAt}
+use Rattle.calls.specs.Running.{bytesAfter, listed, listRefusal}
 
 -- the table t with the servers of a list, an identity and a priority each, of which the lowest 16 and 8 bits count; one that is refused is left out
 unfoldable pub tableFrom : Table → List ℕ → Table
@@ -62,3 +65,10 @@ opened servers n = choose (eqb (freshRefusal (tableOf servers) n) 0) (fresh (tab
 pub record DayEnds (servers : List ℕ) (n : ℕ) (ns d : List ℕ) (r : ℕ) (d′ : List ℕ) : Type 0 where
   pub frame : r ≡ stateAfter (opened servers n) ns d .frame
   pub slice : d′ ≡ sliceAfter (opened servers n) ns d
+
+-- the calls that the numbers ks encode, on the fresh channel of the servers: the frame that they end in, what each gets, and the bytes
+pub record CallsEnd (servers : List ℕ) (n : ℕ) (ks d e : List ℕ) (r : ℕ) (d′ e′ : List ℕ) : Type 0 where
+  pub frame :
+      r ≡ choose (eqb (listRefusal (tableOf servers) n ks d e) 0) (channelAfter (fresh (tableOf servers) n) (listed (tableOf servers) n ks d e)) noChannel .frame
+  pub numbers : e′ ≡ choose (eqb (listRefusal (tableOf servers) n ks d e) 0) (splice e 0 (numbersOf (fresh (tableOf servers) n) (listed (tableOf servers) n ks d e))) e
+  pub bytes : d′ ≡ choose (eqb (listRefusal (tableOf servers) n ks d e) 0) (bytesAfter (fresh (tableOf servers) n) d ks) d

@@ -1,11 +1,13 @@
-// A day for the benchmark, exported for Rust to link.
+// A day and a list of calls for the benchmark, exported for Rust to link.
+use group::Links;
 use group::State;
 use group::Table;
-use server::Period;
+use periods::Period;
+use places::Packed;
 ghost use mathlib.Core.Path.{_≡_};
 ghost use Rattle.places.specs.Words.{serversOf};
 ghost use Rattle.frame.specs.Answers.{stateOf};
-ghost use Rattle.bench.specs.Bench.{tableOf, OneStep, DayRuns, DayEnds};
+ghost use Rattle.bench.specs.Bench.{tableOf, OneStep, DayRuns, DayEnds, CallsEnd};
 
 // The table of the servers, an identity and a priority each; those that are refused are left out.
 fn table_of(servers: &[u64]) -> Table
@@ -28,8 +30,8 @@ fn table_of(servers: &[u64]) -> Table
 
 // A verb, or the advance towards a time, by its number, in place; it is lent the whole slice. The frame afterwards.
 fn one(
-    words: &mut [u32; 80],
-    whole: &mut [bool; 256],
+    words: &mut Packed,
+    whole: &mut Links,
     period: Period,
     frame: u32,
     n: u64,
@@ -61,8 +63,8 @@ fn one(
 
 // One after the other, from the first frame on.
 fn day(
-    words: &mut [u32; 80],
-    whole: &mut [bool; 256],
+    words: &mut Packed,
+    whole: &mut Links,
     period: Period,
     first: u32,
     steps: &[u64],
@@ -92,4 +94,21 @@ pub extern "C" fn bench_day(servers: &[u64], period: u32, steps: &[u64], out: &m
     let mut whole = state.whole;
     let p = state.period;
     day(&mut words, &mut whole, p, state.frame, steps, out)
+}
+
+// Single calls, one after the other, on the fresh channel of the servers by value: the frame that they end in.
+#[no_mangle]
+pub extern "C" fn bench_calls(
+    servers: &[u64],
+    period: u32,
+    calls: &[u64],
+    out: &mut [u8],
+    numbers: &mut [u8],
+) -> u32
+    ensures { λ r. ⌜ CallsEnd (now (servers .entry)) period (now (calls .entry)) (now (out .entry)) (now (numbers .entry)) r (now (out .exit)) (now (numbers .exit)) ⌝ }
+{
+    let table = table_of(servers);
+    let ended = calls::run_list(table, period, calls, out, numbers);
+    let channel = ended.channel;
+    channel.frame()
 }

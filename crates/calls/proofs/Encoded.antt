@@ -10,10 +10,10 @@ use lib.Dec.{eqb}
 use lib.ListN.{length, replicate, getD, length-replicate}
 use Rattle.lists.specs.Choice.{choose}
 use Rattle.lists.proofs.Cases.{less, chosen, other}
-use Rattle.server.specs.declared.Verb.{Verb}
-use Rattle.server.specs.declared.Verb.the-variants.{Start, Ready, Unready, Pass, Crash, Restart, Cut, Mend}
-use Rattle.server.specs.Verbs.{verbNumber}
-use Rattle.server.proofs.Table.{verb-below}
+use Rattle.roles.specs.declared.Verb.{Verb}
+use Rattle.roles.specs.declared.Verb.the-variants.{Start, Ready, Unready, Pass, Crash, Restart, Cut, Mend}
+use Rattle.roles.specs.Verbs.{verbNumber}
+use Rattle.roles.proofs.Table.{verb-below}
 use Rattle.group.specs.declared.State.{State}
 use Rattle.group.specs.Calls.{Call, verb, advance, advanceTo, sliceOf, callNumber, callChannel, channelAfter, numbersOf}
 use Rattle.calls.specs.Encoding.{verbAt, kinds, identities, times, callOf, lesser, callsOf, Encodable, EveryListEncodes}

@@ -8,19 +8,17 @@ use borrow.Author.Tests.{eq-eqb, ne-eqb, le-leb, lt-leb}
 use lib.Dec.{eqb}
 use lib.ListN.{length}
 use Rattle.lists.specs.Choice.{choose}
-use Rattle.lists.proofs.Cases.{chosen, other}
+use Rattle.lists.proofs.Cases.{chosen, other, same-choice}
 use Rattle.refusal.specs.declared.Refusal.{Refusal}
 use Rattle.refusal.specs.declared.Refusal.the-variants.{Short}
 use Rattle.refusal.specs.declared.Verdict.the-variants.{Accepted}
 use Rattle.refusal.specs.Answer.{numberOf, ofVerdict}
 use Rattle.refusal.proofs.Answers.{number-some}
-use Rattle.heartbeat.specs.declared.Rank.{Rank}
-use Rattle.server.specs.Period.{takePeriod}
 use Rattle.group.specs.declared.Table.{Table}
 use Rattle.group.specs.declared.State.{State}
 use Rattle.channel.specs.declared.Channel.{Channel}
 use Rattle.channel.specs.Answers.{state}
-use Rattle.group.specs.Table.{most, empty, tableOf, freshRefusal, fresh}
+use Rattle.group.specs.Table.{empty, freshRefusal, fresh}
 use Rattle.group.specs.Answers.{noChannel}
 use Rattle.group.specs.Calls.{channelAfter}
 use Rattle.settling.specs.Links.{NoLinkCut}
@@ -35,8 +33,7 @@ use Rattle.calls.proofs.Encoded.{every-list-encodes}
 
 -- the channel that stands where none was opened
 pub no-channel-is : {t : Table} {x : State} → x ≡ choose (eqb (freshRefusal t 2) 0) (fresh t 2) noChannel → t ≡ empty → x ≡ noChannel
-unfolding freshRefusal takePeriod choose
-no-channel-is {t} {x} e q = e ∙ ap (λ (y : Table). choose (eqb (freshRefusal y 2) 0) (fresh y 2) noChannel) q
+no-channel-is {t} {x} e q = e ∙ ap (λ (y : Table). choose (eqb (freshRefusal y 2) 0) (fresh y 2) noChannel) q ∙ same-choice (eqb (freshRefusal empty 2) 0) noChannel
 
 module _ (t : Table) (n : ℕ) (ks d e : List ℕ) where
   -- a list that is refused
@@ -50,7 +47,7 @@ module _ (t : Table) (n : ℕ) (ks d e : List ℕ) where
         numbers = sym (other _ some);
         bytes = sym (other _ some);
         encodes = every-list-encodes;
-        settles = λ rs same z. absurd (omega (arith, number, number-some k));
+        settles = λ z. absurd (omega (arith, number, number-some k));
       }
 
   -- 2, 6, 7
@@ -80,14 +77,7 @@ module _ (t : Table) (n : ℕ) (ks d e : List ℕ) where
         bytes = w .bytes ∙ sym (chosen _ yes);
         encodes = every-list-encodes;
         settles =
-            λ rs made z uncut i l active.
-            settling rs made uncut i l (w .channel) active;
+            λ z uncut i l active.
+            subst (Settles (settlingTime n)) (sym (w .channel))
+            (settles n t (listed t n ks d e) q uncut i l (subst (λ (y : State). InThoseRoles y i) (w .channel) active));
       }
-    where
-      settling : (rs : List Rank) → t ≡ tableOf rs → NoLinkCut (fresh t n) (listed t n ks d e) → (i : ℕ) → i < most → state x ≡ channelAfter (fresh t n) (listed t n ks d e) →
-          InThoseRoles (state x) i → Settles (settlingTime n) (state x)
-      settling rs made uncut i l is active =
-          let here : channelAfter (fresh t n) (listed t n ks d e) ≡ channelAfter (fresh (tableOf rs) n) (listed t n ks d e) = ap (λ (y : Table). channelAfter (fresh y n) (listed t n ks d e)) made in
-          subst (Settles (settlingTime n)) (sym (is ∙ here))
-          (settles n rs (listed t n ks d e) (subst (λ (y : Table). freshRefusal y n ≡ 0) made q) (subst (λ (y : Table). NoLinkCut (fresh y n) (listed t n ks d e)) made uncut) i l
-          (subst (λ (y : State). InThoseRoles y i) (is ∙ here) active))

@@ -7,10 +7,9 @@ use lib.ListN.{length, take, drop}
 use Rattle.lists.specs.Choice.{choose}
 use Rattle.lists.specs.Splice.{splice}
 use Rattle.refusal.specs.Answer.{ofVerdict}
-use Rattle.heartbeat.specs.declared.Rank.{Rank}
 use Rattle.group.specs.declared.Table.{Table}
 use Rattle.group.specs.declared.State.{State}
-use Rattle.group.specs.Table.{most, tableOf, freshRefusal, fresh}
+use Rattle.group.specs.Table.{most, freshRefusal, fresh}
 use Rattle.group.specs.Answers.{noChannel}
 use Rattle.group.specs.Calls.{Call, callChannel, callSlice, channelAfter, numbersOf}
 use Rattle.channel.specs.Answers.{state}
@@ -46,5 +45,5 @@ module _ (t : Table) (n : ℕ) (ks d e : List ℕ) where
     pub encodes : EveryListEncodes
     -- demand 3, of the channel that the list ends with
     pub settles :
-        (rs : List Rank) → t ≡ tableOf rs → ofVerdict (r .verdict) ≡ 0 → NoLinkCut (fresh t n) listed → (i : ℕ) → i < most → InThoseRoles (state (r .channel)) i →
+        ofVerdict (r .verdict) ≡ 0 → NoLinkCut (fresh t n) listed → (i : ℕ) → i < most → InThoseRoles (state (r .channel)) i →
         Settles (settlingTime n) (state (r .channel))

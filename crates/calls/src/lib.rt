@@ -4,7 +4,7 @@ use channel::Channel;
 use group::Table;
 use refusal::Refusal;
 use refusal::Verdict;
-use server::Verb;
+use roles::Verb;
 ghost use mathlib.Core.Path.{_≡_};
 ghost use Prim.Native.Nat.{_<_, _≤_};
 ghost use lib.ListN.{length};

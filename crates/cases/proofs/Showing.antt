@@ -14,7 +14,7 @@ use Rattle.text.specs.Words.{bytes}
 use Rattle.text.specs.Digits.{digits}
 use Rattle.server.specs.declared.Server.{Server}
 use Rattle.server.specs.Server.{absent}
-use Rattle.server.specs.Verbs.{roleNumber}
+use Rattle.roles.specs.Roles.{roleNumber}
 use Rattle.group.specs.Table.{isEmpty, counted}
 use Rattle.cases.specs.Cases.{rolesIn, Shows, two, counts, callLine}
 

@@ -12,7 +12,7 @@ use Rattle.text.specs.Digits.{digits}
 use Rattle.text.specs.Number.{readNumber}
 use Rattle.text.specs.Line.{field, afterField}
 use Rattle.server.specs.declared.Server.{Server}
-use Rattle.server.specs.Verbs.{roleNumber}
+use Rattle.roles.specs.Roles.{roleNumber}
 use Rattle.group.specs.Table.{isEmpty, counted}
 use Rattle.cases.specs.declared.Arg.{Arg}
 use Rattle.cases.specs.declared.Args.{Args}

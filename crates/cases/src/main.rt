@@ -11,13 +11,14 @@
 // bytes were written, how many bytes after them are as before, the frame, a digit for the role of each server, and then what was written.
 use channel::Answer;
 use channel::Channel;
+use group::Servers;
 use group::Table;
 use libc::STDOUT_FILENO;
 use refusal::Refusal;
 use refusal::Verdict;
-use server::Role;
+use roles::Role;
+use roles::Verb;
 use server::Server;
-use server::Verb;
 use text::NumberAnswer;
 use text::Written;
 ghost use mathlib.Core.Path.{_≡_};
@@ -27,7 +28,8 @@ ghost use lib.ListN.{length, replicate};
 ghost use Rattle.lists.specs.Choice.{choose};
 ghost use Rattle.refusal.specs.Answer.{ofVerdict};
 ghost use Rattle.text.specs.Steps.{Pieces};
-ghost use Rattle.server.specs.Verbs.{roleNumber, verbNumber};
+ghost use Rattle.roles.specs.Roles.{roleNumber};
+ghost use Rattle.roles.specs.Verbs.{verbNumber};
 ghost use Rattle.group.specs.Table.{isEmpty};
 ghost use Rattle.cases.specs.Cases.{argIn, argsIn, fillers, Shows, two, tableLine, counts, callLine};
 
@@ -62,16 +64,16 @@ impl Arg {
 
 impl Args {
     // The numbers of a line after its first field, each with its greatest.
-    fn read(s: &[u8], x: u64, y: u64, z: u64, length: u64) -> Args
-        ensures { λ r. ⌜ r ≡ argsIn x y z length (now (s .entry)) ⌝ }
-        ensures { λ r. ⌜ (r .x ≤ x) × ((r .y ≤ y) × ((r .z ≤ z) × (r .length ≤ length))) ⌝ }
+    fn read(s: &[u8], x: u64, y: u64, z: u64, longest: u64) -> Args
+        ensures { λ r. ⌜ r ≡ argsIn x y z longest (now (s .entry)) ⌝ }
+        ensures { λ r. ⌜ (r .x ≤ x) × ((r .y ≤ y) × ((r .z ≤ z) × (r .length ≤ longest))) ⌝ }
     {
         let s2 = text::after_field(s);
         let s3 = text::after_field(s2);
         let first = Arg::read(text::first_field(s), x);
         let second = Arg::read(text::first_field(s2), y);
         let third = Arg::read(text::first_field(s3), z);
-        let last = Arg::read(text::after_field(s3), length);
+        let last = Arg::read(text::after_field(s3), longest);
         Args {
             x: first.n,
             y: second.n,
@@ -183,7 +185,7 @@ struct Roles {
     count: usize,
 }
 
-fn roles_of(servers: [Server; 16]) -> Roles
+fn roles_of(servers: Servers) -> Roles
     ensures { λ r. ⌜ Shows servers r ⌝ }
 {
     let mut digits: [u8; 16] = [0; 16];
@@ -219,7 +221,7 @@ fn put_two(out: &mut [u8], m: u64, n: u64) -> Written
     b.then_number(out, n)
 }
 
-fn put_table(out: &mut [u8], number: u8, servers: [Server; 16]) -> Written
+fn put_table(out: &mut [u8], number: u8, servers: Servers) -> Written
     ensures { λ r. ⌜ Pieces (now (out .entry)) 0 (tableLine number servers) r (now (out .exit)) ⌝ }
 {
     let roles = roles_of(servers);
@@ -246,7 +248,7 @@ fn put_call(
     written: usize,
     kept: usize,
     frame: u32,
-    servers: [Server; 16],
+    servers: Servers,
 ) -> Written
     ensures { λ r. ⌜ Pieces (now (out .entry)) 0 (callLine number written kept frame servers) r (now (out .exit)) ⌝ }
 {
@@ -275,7 +277,7 @@ fn print(out: &[u8], n: usize) {
     }
 }
 
-fn say_table(verdict: Verdict, servers: [Server; 16]) {
+fn say_table(verdict: Verdict, servers: Servers) {
     let mut out = [0u8; 64];
     let line = put_table(&mut out, number(verdict), servers);
     print(&out, end(line));
@@ -321,7 +323,7 @@ fn act(channel: Channel, verb: Verb, a: u16, b: u16, lent: &mut [u8]) -> Answer 
 
 // Any verb; a second identity that is not looked at can only be given here.
 fn act_any(channel: Channel, verb: Verb, a: u16, b: u16, lent: &mut [u8]) -> Answer {
-    if server::paired(verb) | (b == 0) {
+    if roles::paired(verb) | (b == 0) {
         act(channel, verb, a, b, lent)
     } else {
         channel.verb(verb, a, b, lent)
@@ -424,7 +426,7 @@ impl State {
         let added = table.add(identity, priority);
         let verdict = added.verdict;
         let next = added.table;
-        let servers = next.servers;
+        let servers = next.servers();
         say_table(verdict, servers);
         self.with_table(next)
     }
@@ -442,7 +444,7 @@ impl State {
     // A refused period leaves the channel there was.
     fn open(self, period: u32) -> State {
         let table = self.table;
-        let servers = table.servers;
+        let servers = table.servers();
         let opened = Channel::fresh(table, period);
         let verdict = opened.verdict;
         let channel = opened.channel;
@@ -552,11 +554,11 @@ fn line_length(s: &[u8]) -> usize
 }
 
 // The place after a line of n bytes and its line feed.
-fn past(n: usize, length: usize) -> usize
-    requires { ⌜ (n ≤ length) × (0 < length) ⌝ }
-    ensures { λ r. ⌜ (0 < r) × (r ≤ length) ⌝ }
+fn past(n: usize, end: usize) -> usize
+    requires { ⌜ (n ≤ end) × (0 < end) ⌝ }
+    ensures { λ r. ⌜ (0 < r) × (r ≤ end) ⌝ }
 {
-    if n < length { n + 1 } else { length }
+    if n < end { n + 1 } else { end }
 }
 
 // The state after a line, and where the next one begins.

@@ -4,7 +4,7 @@ use mathlib.Core.List.{List, [], _++_}
 use Prim.Native.Nat.{ℕ, _-_}
 use lib.Dec.{ltb, leb, eqb}
 use Rattle.lists.specs.Choice.{choose}
-use Rattle.server.specs.declared.Verb.{Verb}
+use Rattle.roles.specs.declared.Verb.{Verb}
 use Rattle.group.specs.declared.State.{State}
 use Rattle.group.specs.declared.Table.{Table}
 use Rattle.group.specs.Table.{empty, addRefusal, added, freshRefusal, fresh}

@@ -12,10 +12,10 @@ use Rattle.text.specs.Number.{readNumber}
 use Rattle.text.specs.Line.{readLine, fields, field}
 use Rattle.timecode.specs.Read.{readTimecode}
 use Rattle.heartbeat.specs.Rank.{readIdentity, readPriority}
-use Rattle.server.specs.declared.Verb.{Verb}
-use Rattle.server.specs.declared.Verb.the-variants.{Start, Ready, Unready, Pass, Crash, Restart, Cut, Mend}
-use Rattle.server.specs.Period.{leastPeriod, greatestPeriod}
-use Rattle.server.specs.Verbs.{paired}
+use Rattle.roles.specs.declared.Verb.{Verb}
+use Rattle.roles.specs.declared.Verb.the-variants.{Start, Ready, Unready, Pass, Crash, Restart, Cut, Mend}
+use Rattle.periods.specs.Period.{leastPeriod, greatestPeriod}
+use Rattle.roles.specs.Verbs.{paired}
 
 -- a line read: the number that it is refused with, or what it says
 pub data DayLine : Type 0 where

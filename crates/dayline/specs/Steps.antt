@@ -9,9 +9,9 @@ use Rattle.text.specs.Line.{field}
 use Rattle.text.specs.Number.{readNumber}
 use Rattle.timecode.specs.Read.{readTimecode}
 use Rattle.heartbeat.specs.Rank.{readIdentity}
-use Rattle.server.specs.declared.Verb.{Verb}
-use Rattle.server.specs.Period.{leastPeriod, greatestPeriod}
-use Rattle.server.specs.Verbs.{paired}
+use Rattle.roles.specs.declared.Verb.{Verb}
+use Rattle.periods.specs.Period.{leastPeriod, greatestPeriod}
+use Rattle.roles.specs.Verbs.{paired}
 use Rattle.day.specs.Read.{DayLine, wrong, period, server, entry, end, Named, called, unknown, whenGood}
 use Rattle.dayline.specs.declared.Named.{Named as Word}
 use Rattle.dayline.specs.declared.Named.the-variants.{Called, Unknown}

@@ -1,8 +1,8 @@
 // A line of a day, read.
 use heartbeat::Rank;
+use periods::Period;
 use refusal::Refusal;
-use server::Period;
-use server::Verb;
+use roles::Verb;
 use text::Line;
 use text::LineAnswer;
 use text::NumberAnswer;
@@ -12,8 +12,7 @@ ghost use mathlib.Core.Path.{_≡_};
 ghost use mathlib.Core.List.{[], _∷_};
 ghost use lib.ListN.{length};
 ghost use Rattle.lists.specs.Choice.{choose};
-ghost use Rattle.lists.specs.Lists.{upTo};
-ghost use Rattle.lists.specs.Lists.{same};
+ghost use Rattle.lists.specs.Lists.{upTo, same};
 ghost use Rattle.refusal.specs.Answer.{accepted, inTurn};
 ghost use Rattle.text.specs.Line.{field, afterField};
 ghost use Rattle.timecode.specs.Read.{readTimecode};
@@ -130,7 +129,7 @@ fn read_end(s: &[u8]) -> DayLine
     ensures { λ r. ⌜ ofDayLine r ≡ whenGood (readTimecode (field (now (s .entry)) 0)) endOf ⌝ }
 {
     match Timecode::read(text::first_field(s)) {
-        TimecodeAnswer::Is(t) => DayLine::End(t.frame),
+        TimecodeAnswer::Is(t) => DayLine::End(t.frame()),
         TimecodeAnswer::Refused(k) => DayLine::Wrong(k),
     }
 }
@@ -154,7 +153,7 @@ fn from_second(verb: Verb, time: u32, first: u16, s: &[u8]) -> DayLine
 fn after_first(verb: Verb, time: u32, first: u16, s: &[u8]) -> DayLine
     ensures { λ r. ⌜ ofDayLine r ≡ whenGood (inTurn (accepted (time ∷ first ∷ [])) (readSecond verb (field (now (s .entry)) 0))) (entryOf verb) ⌝ }
 {
-    if server::paired(verb) {
+    if roles::paired(verb) {
         from_second(verb, time, first, s)
     } else {
         DayLine::Entry {
@@ -180,7 +179,7 @@ fn read_entry(verb: Verb, time: &[u8], s: &[u8]) -> DayLine
     ensures { λ r. ⌜ ofDayLine r ≡ whenGood (entryRead verb (now (time .entry)) (now (s .entry))) (entryOf verb) ⌝ }
 {
     match Timecode::read(time) {
-        TimecodeAnswer::Is(t) => from_first(verb, t.frame, s),
+        TimecodeAnswer::Is(t) => from_first(verb, t.frame(), s),
         TimecodeAnswer::Refused(k) => DayLine::Wrong(k),
     }
 }
@@ -200,7 +199,7 @@ fn counted(count: usize, due: usize, line: DayLine) -> DayLine
 fn fields_of(verb: Verb) -> usize
     ensures { λ r. ⌜ r ≡ fieldsOf verb ⌝ }
 {
-    if server::paired(verb) { 4 } else { 3 }
+    if roles::paired(verb) { 4 } else { 3 }
 }
 
 // An entry of so many fields; s is what follows its time.

@@ -6,9 +6,9 @@ use borrow.Author.Tests.{eqb-true}
 use lib.Dec.{eqb}
 use lib.ListN.{getD}
 use Rattle.lists.specs.Choice.{choose}
-use Rattle.lists.specs.Lists.{all, same, splitOn, upTo}
+use Rattle.lists.specs.Lists.{every, same, splitOn, upTo}
 use Rattle.lists.proofs.Cases.{fst-true, snd-true}
-use Rattle.lists.proofs.Clear.{all-at}
+use Rattle.lists.proofs.Clear.{every-at}
 use Rattle.lists.proofs.SameLoop.{same-equal}
 use Rattle.refusal.specs.Answer.{inTurn}
 use Rattle.text.specs.Digits.{digits}
@@ -18,15 +18,16 @@ use Rattle.timecode.specs.Label.{label}
 use Rattle.timecode.specs.Read.{twoBelow, isLabel, frameOf, readTimecode}
 use Rattle.heartbeat.specs.Rank.{higher}
 use Rattle.heartbeat.specs.Heartbeat.{isSet, readFields, readBody, readHeartbeat, heartbeatLine}
-use Rattle.server.specs.Period.{takePeriod}
+use Rattle.periods.specs.Period.{takePeriod}
 use Rattle.server.specs.Server.{oneMore, sentBy, sentAny, after}
-use Rattle.hearing.specs.Hearing.{forThis, backupHears, prospectHears, primaryHears}
+use Rattle.server.specs.Hearing.{forThis, backupHears, prospectHears, primaryHears, heardAll}
 use Rattle.server.specs.Timers.{afterSilent, afterBeating, afterRising}
-use Rattle.server.specs.Verbs.{from, enters, entering, verbHappens, verbAnswer}
-use Rattle.group.specs.Table.{placeIn, standsBefore, enter, addRefusal, added, freshRefusal}
+use Rattle.roles.specs.Verbs.{from, enters, entering, verbHappens}
+use Rattle.server.specs.Verbs.{verbAnswer}
+use Rattle.group.specs.Table.{placeIn, standsBefore, enter, anew, isNew, follows, rises, isTable, addRefusal, added, freshRefusal}
 use Rattle.lines.specs.Lines.{line, linesOf}
 use Rattle.group.specs.Hearing.{hearsFrom, comes, nextAmong, nextSender, sendersAfter, sentByAll, inbox}
-use Rattle.group.specs.Frame.{heardAll, heardLines, timedLines, hearing, turned, turnLines, turnsLines, advanced, frameLines}
+use Rattle.group.specs.Frame.{heardLines, timedLines, hearing, turned, turnLines, turnsLines, advanced, frameLines}
 use Rattle.group.specs.Verbs.{namesNobody, known, stateRefusal, verbRefusal, did}
 use Rattle.group.specs.Advance.{advancedBy, linesBy}
 use Rattle.day.specs.Read.{linesIn, whenGood, having, verbNamed, bodyRead, lineRead}
@@ -64,9 +65,9 @@ so (heartbeat l set w) e =
       same-equal _ _ (snd-true (sameBool (isSet (heartbeatOf (readHeartbeat l .values) .reveal)) set) _ f),
     )
 
-whole : all holds rows ≡ true
-unfolding holds sameBool choose same splitOn upTo inTurn digits value wellWritten readNumber readLine label twoBelow isLabel frameOf readTimecode higher readFields readBody readHeartbeat heartbeatLine takePeriod oneMore sentBy sentAny after forThis backupHears prospectHears primaryHears afterSilent afterBeating afterRising from enters entering verbHappens verbAnswer placeIn standsBefore enter addRefusal added freshRefusal line linesOf hearsFrom comes nextAmong nextSender sendersAfter sentByAll inbox heardAll heardLines timedLines hearing turned turnLines turnsLines advanced frameLines namesNobody known stateRefusal verbRefusal did advancedBy linesBy linesIn whenGood having verbNamed bodyRead lineRead addEffect callEffect entryEffect endEffect opening effectOf inputRefusal sheetFrom sheet
+whole : every holds rows ≡ true
+unfolding holds sameBool choose same splitOn upTo inTurn digits value wellWritten readNumber readLine label twoBelow isLabel frameOf readTimecode higher readFields readBody readHeartbeat heartbeatLine takePeriod oneMore sentBy sentAny after forThis backupHears prospectHears primaryHears afterSilent afterBeating afterRising from enters entering verbHappens verbAnswer placeIn standsBefore enter anew isNew follows rises isTable addRefusal added freshRefusal line linesOf hearsFrom comes nextAmong nextSender sendersAfter sentByAll inbox heardAll heardLines timedLines hearing turned turnLines turnsLines advanced frameLines namesNobody known stateRefusal verbRefusal did advancedBy linesBy linesIn whenGood having verbNamed bodyRead lineRead addEffect callEffect entryEffect endEffect opening effectOf inputRefusal sheetFrom sheet
 whole = refl
 
 pub worked-days : WorkedDays
-worked-days i h = so (getD rows i (day [] [])) (all-at holds rows i (day [] []) whole h)
+worked-days i h = so (getD rows i (day [] [])) (every-at holds rows i (day [] []) whole h)

@@ -1,2 +1,3 @@
-pub mod Turning
-pub mod Spending
+pub mod Answers
+pub mod Counting
+pub mod Writing

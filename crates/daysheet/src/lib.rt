@@ -1,27 +1,16 @@
 // The sheet of a whole day, in one call.
 use feed::Feed;
+use group::Table;
 use refusal::Refusal;
 use text::Written;
 ghost use mathlib.Core.Path.{_≡_};
-ghost use Prim.Native.Nat.{_+_, _-_, _≤_};
+ghost use Prim.Native.Nat.{_≤_};
 ghost use lib.Dec.{leb};
 ghost use lib.ListN.{length};
-ghost use Rattle.lists.specs.Choice.{choose};
 ghost use Rattle.text.specs.Write.{Writes};
 ghost use Rattle.day.specs.Sheet.{sheet};
 ghost use Rattle.feeding.specs.Bound.{stepBytes};
-ghost use Rattle.feed.specs.Answers.{fedOf};
-ghost use Rattle.daysheet.specs.Steps.{Spends, writtenBytes, Turns};
-
-// The header's bytes.
-const HEADER: usize = 17;
-
-// What a turn wrote, and how many bytes of the day it took.
-struct Turned {
-    written: Written,
-    used: usize,
-    feed: Feed,
-}
+ghost use Rattle.daysheet.specs.Steps.{Spends, writtenBytes};
 
 // Whether bytes fit into what is left, and what is left then.
 struct Spent {
@@ -47,54 +36,13 @@ fn spend(written: Written, left: usize) -> Spent
     }
 }
 
-// The place after a write at a place, in a slice of such a length.
-fn after(at: usize, written: Written, room: usize) -> usize
-    requires { ⌜ at ≤ room ⌝ }
-    ensures { λ r. ⌜ r ≡ at + choose (leb (writtenBytes written) (room - at)) (writtenBytes written) 0 ⌝ }
+// The place after a write at a slice's start; where it was refused, the start.
+fn end(written: Written) -> usize
+    ensures { λ r. ⌜ r ≡ writtenBytes written ⌝ }
 {
     match written {
-        Written::To(n) => { if n <= room - at { at + n } else { at } }
-        Written::Refused(_) => at,
-    }
-}
-
-// Steps where a whole line is to be done, else bytes of the rest of the day, else its end; 9.
-fn turn(
-    feed: Feed,
-    line: &mut [u8; 65],
-    words: &mut [u32; 80],
-    whole: &mut [bool; 256],
-    rest: &[u8],
-    out: &mut [u8],
-) -> Turned
-    ensures { λ r. ⌜ Turns (fedOf feed (now (line .entry)) (now (words .entry)) (now (whole .entry))) (now (rest .entry)) (now (out .entry)) (r .written) (r .used) (fedOf (r .feed) (now (line .exit)) (now (words .exit)) (now (whole .exit))) (now (out .exit)) ⌝ }
-{
-    if feed.waits(line) {
-        let step = feed.steps(line, words, whole, out);
-        let written = step.written;
-        let next = step.feed;
-        return Turned {
-            written,
-            used: 0,
-            feed: next,
-        };
-    }
-    if rest.len() == 0 {
-        let last = feed.finish(line, out);
-        let written = last.written;
-        let next = last.feed;
-        return Turned {
-            written,
-            used: 0,
-            feed: next,
-        };
-    }
-    let taken = feed.take(line, rest);
-    let next = taken.feed;
-    Turned {
-        written: Written::To(0),
-        used: taken.used,
-        feed: next,
+        Written::To(n) => n,
+        Written::Refused(_) => 0,
     }
 }
 
@@ -104,25 +52,35 @@ fn fits(day: &[u8], scratch: &mut [u8], room: usize) -> bool
     ensures { λ r. ⌜ r ≡ leb (length (sheet (now (day .entry)))) room ⌝ }
 {
     let begun = Feed::begin(scratch);
-    if room < HEADER {
+    let header = begun.written;
+    let after = spend(header, room);
+    if !after.fits {
         return false;
     }
-    let mut line = [0; 65];
-    let mut words = [0; 80];
-    let mut whole = [true; 256];
+    let mut line = [0; Feed::LINE];
+    let mut words = [0; places::PACKED];
+    let mut whole = [true; Table::LINKS];
     let mut feed = begun.feed;
-    let mut left = room - HEADER;
+    let mut left = after.left;
     let mut i: usize = 0;
     while !feed.over() {
-        let turned = turn(feed, &mut line, &mut words, &mut whole, &day[i..], scratch);
-        let written = turned.written;
-        let next = turned.feed;
+        let printed = printer::print(
+            feed,
+            &mut line,
+            &mut words,
+            &mut whole,
+            &day[i..],
+            true,
+            scratch,
+        );
+        let written = printed.written;
+        let next = printed.feed;
         let spent = spend(written, left);
         if !spent.fits {
             return false;
         }
         left = spent.left;
-        i += turned.used;
+        i += printed.used;
         feed = next;
     }
     true
@@ -134,32 +92,27 @@ fn write(day: &[u8], out: &mut [u8]) -> usize
     ensures { λ r. ⌜ Writes (now (out .entry)) 0 (sheet (now (day .entry))) (Written.To r) (now (out .exit)) ⌝ }
 {
     let begun = Feed::begin(out);
-    let mut line = [0; 65];
-    let mut words = [0; 80];
-    let mut whole = [true; 256];
-    let mut feed = begun.feed;
-    let mut at: usize = HEADER;
-    let mut i: usize = 0;
-    while !feed.over() {
-        let room = out.len();
-        let turned = turn(
-            feed,
-            &mut line,
-            &mut words,
-            &mut whole,
-            &day[i..],
-            &mut out[at..],
-        );
-        let written = turned.written;
-        let next = turned.feed;
-        at = after(at, written, room);
-        i += turned.used;
-        feed = next;
-    }
-    at
+    let header = begun.written;
+    let feed = begun.feed;
+    let at = end(header);
+    let mut line = [0; Feed::LINE];
+    let mut words = [0; places::PACKED];
+    let mut whole = [true; Table::LINKS];
+    let printed = printer::print(
+        feed,
+        &mut line,
+        &mut words,
+        &mut whole,
+        day,
+        true,
+        &mut out[at..],
+    );
+    let written = printed.written;
+    at + end(written)
 }
 
-// The sheet of a whole day, at the slice's start; 9 where it does not fit, and then no byte is changed.
+// The sheet of a whole day, at the slice's start; 9 where it does not fit, and then no byte is
+// changed.
 pub fn sheet(day: &[u8], out: &mut [u8]) -> Written
     ensures { λ r. ⌜ Writes (now (out .entry)) 0 (sheet (now (day .entry))) r (now (out .exit)) ⌝ }
 {

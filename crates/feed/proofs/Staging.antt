@@ -1,12 +1,13 @@
 -- A feed by its stage, and what its functions make together. Assumes nothing.
-use mathlib.Core.Bool.{Bool}
+use mathlib.Core.Bool.{Bool, true, false}
 use mathlib.Core.Path.{_≡_, refl, sym, ap, subst, _∙_}
 use mathlib.Core.List.{List, [], _∷_}
 use Prim.Native.Nat.{ℕ, _≤_}
 use native.Mathlib.Omega.{arith}
 use borrow.Author.Tests.{eq-eqb, ne-eqb, le-leb}
+use lib.Dec.{eqb}
 use lib.ListN.{getD}
-use Rattle.lists.proofs.Cases.{equal, on, chosen, other, and-true}
+use Rattle.lists.proofs.Cases.{tested, equal, on, chosen, other, and-true, and-left}
 use Rattle.refusal.specs.declared.Refusal.{Refusal}
 use Rattle.refusal.specs.declared.Verdict.{Verdict}
 use Rattle.refusal.specs.declared.Verdict.the-variants.{Accepted, Refused}
@@ -14,18 +15,19 @@ use Rattle.refusal.specs.Answer.{Answer, accepted, ofVerdict, numberOf}
 use Rattle.refusal.proofs.Answers.{number-some}
 use Rattle.text.specs.declared.Written.{Written}
 use Rattle.text.specs.declared.Written.the-variants.{To}
-use Rattle.server.specs.declared.Period.{Period}
-use Rattle.server.specs.declared.PeriodAnswer.{PeriodAnswer}
-use Rattle.server.specs.declared.PeriodAnswer.the-variants.{Is, Refused as Declined}
+use Rattle.periods.specs.declared.Period.{Period}
+use Rattle.periods.specs.declared.PeriodAnswer.{PeriodAnswer}
+use Rattle.periods.specs.declared.PeriodAnswer.the-variants.{Is, Refused as Declined}
 use Rattle.server.specs.declared.Server.{Server}
-use Rattle.server.specs.declared.Verb.{Verb}
-use Rattle.server.specs.Period.{leastPeriod, greatestPeriod, ofPeriod, takePeriod}
+use Rattle.roles.specs.declared.Verb.{Verb}
+use Rattle.periods.specs.Period.{leastPeriod, greatestPeriod, ofPeriod, takePeriod}
 use Rattle.group.specs.declared.State.{State}
 use Rattle.group.specs.declared.Table.{Table}
 use Rattle.group.specs.declared.Added.{Added}
-use Rattle.group.specs.Table.{addRefusal, fresh}
-use Rattle.group.specs.Answers.{Adds, Gives}
+use Rattle.group.specs.Table.{isTable, tableWith, addRefusal, fresh}
+use Rattle.group.specs.Answers.{Adds, Takes, Gives}
 use Rattle.group.specs.Verbs.{verbOutcome}
+use Rattle.group.proofs.Made.{table-added}
 use Rattle.frame.specs.Answers.{stateOf}
 use Rattle.day.specs.Day.{Day, on as during, atServers, atEntries, tableOf, addEffect, callEffect}
 use Rattle.feeding.specs.Fed.{Fed}
@@ -76,6 +78,22 @@ module _ {n : ℕ} (lo : leastPeriod ≤ n) (hi : n ≤ greatestPeriod) (r : Per
   pub period-taken : {k : Refusal} → r ≡ Declined k → ⊥
   period-taken {k} e = let z : numberOf k ≡ 0 = ap (λ (a : Answer). a .number) (sym (ap ofPeriod e) ∙ q ∙ in-range lo hi) in omega (arith, number-some k)
 
+-- ---- the table of the servers so far
+
+module _ {l : List Server} {r : Added} (q : Takes l r) where
+  pub is-taken : r .verdict ≡ Accepted → r .table ≡ record { servers = l }
+  unfolding tableWith
+  is-taken v =
+      on (tested (isTable l))
+      (λ e. q .table ∙ chosen _ e)
+      (λ e. absurd (omega (arith, sym (ap ofVerdict v) ∙ q .number ∙ other 0 e)))
+
+  pub not-taken : {k : Refusal} → r .verdict ≡ Refused k → (isTable l ≡ false) × (numberOf k ≡ 2)
+  not-taken {k} v =
+      on (tested (isTable l))
+      (λ e. absurd (omega (arith, number-some k, sym (ap ofVerdict v) ∙ q .number ∙ chosen 2 e)))
+      (λ e. (e, sym (ap ofVerdict v) ∙ q .number ∙ other 0 e))
+
 -- ---- a server more
 
 module _ (f : Fed) (c : State) (i p : ℕ) {s : List Server} (e : s ≡ c .servers) {r : Added} (q₀ : Adds (record { servers = s }) i p r) where
@@ -93,6 +111,20 @@ module _ (f : Fed) (c : State) (i p : ℕ) {s : List Server} (e : s ≡ c .serve
   add-not {k} v =
       let is : addRefusal (tableOf c) i ≡ numberOf k = sym (q .number) ∙ ap ofVerdict v in
       sym (ap (effectMove f) (other _ (ne-eqb (addRefusal (tableOf c) i) 0 (λ z. omega (arith, is, number-some k)))) ∙ ap (stopping f) is)
+
+-- 2, where the servers so far are no table
+pub add-to-none :
+    (f : Fed) (c : State) (i p : ℕ) {s : List Server} → s ≡ c .servers → {r : Added} → Takes s r → {k : Refusal} → r .verdict ≡ Refused k →
+    stopping f (numberOf k) ≡ effectMove f (addEffect c i p)
+unfolding addEffect addRefusal
+add-to-none f c i p {s} e {r} q {k} v =
+    let t = not-taken q v in
+    let is : addRefusal (tableOf c) i ≡ 2 = other _ (and-left _ (ap isTable (sym e) ∙ t .0)) in
+    sym (ap (effectMove f) (other _ (ap (λ (n : ℕ). eqb n 0) is)) ∙ ap (stopping f) (is ∙ sym (t .1)))
+
+-- the table of an accepted one is a table
+pub added-table : (t : Table) (i p : ℕ) {r : Added} → Adds t i p r → r .verdict ≡ Accepted → isTable (r .table .servers) ≡ true
+added-table t i p q v = ap (λ (x : Table). isTable (x .servers)) (q .table) ∙ table-added t i p (sym (q .number) ∙ ap ofVerdict v)
 
 -- ---- a verb
 

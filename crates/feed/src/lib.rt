@@ -1,23 +1,26 @@
 // A day fed in pieces, and its sheet line by line. The line under way, the servers' numbers and the links are lent, and changed in place.
 use dayline::DayLine;
+use group::Links;
 use group::State;
 use group::Table;
+use periods::Period;
+use periods::PeriodAnswer;
+use places::Packed;
 use refusal::Refusal;
 use refusal::Verdict;
-use server::Period;
-use server::PeriodAnswer;
-use server::Server;
-use server::Verb;
+use roles::Verb;
+use text::Line;
 use text::Written;
 ghost use mathlib.Core.Path.{_≡_};
+ghost use mathlib.Core.Bool.{true};
 ghost use mathlib.Core.List.{[]};
 ghost use Prim.Native.Nat.{_-_, _≤_, _<_};
 ghost use lib.ListN.{length, take};
 ghost use Rattle.refusal.specs.Answer.{ofVerdict, numberOf};
 ghost use Rattle.text.specs.Write.{Writes};
 ghost use Rattle.text.specs.Steps.{Pieces};
-ghost use Rattle.server.specs.Period.{leastPeriod, greatestPeriod, beatLimit};
-ghost use Rattle.group.specs.Table.{empty, freshRefusal, fresh};
+ghost use Rattle.periods.specs.Period.{leastPeriod, greatestPeriod, beatLimit};
+ghost use Rattle.group.specs.Table.{empty, isTable, freshRefusal, fresh};
 ghost use Rattle.places.specs.Words.{serversOf};
 ghost use Rattle.day.specs.Read.{entry, end, lineRead};
 ghost use Rattle.day.specs.Day.{on, atServers, stop, periodEffect, addEffect, serverEffect, callEffect, entryEffect, endEffect, lastLine, beyond};
@@ -37,7 +40,7 @@ pub enum Stage {
     AtClose,
 }
 
-// Where a day stands: whether its sheet is over; the number of the line under way, and how many bytes of it are there; which lines have come; the frame and the period. The rest is lent: the line's bytes, the servers as numbers (`frames`), the links.
+// Where a day stands: whether its sheet is over; the number of the line under way, and how many bytes of it are there; which lines have come; the frame and the period. The rest is lent: the line's bytes, the servers as numbers (`places`), the links.
 pub struct Feed {
     over: bool,
     number: u32,
@@ -60,8 +63,8 @@ pub struct Step {
 }
 
 impl Feed {
-    // So many bytes of a line are looked at.
-    const ENOUGH: usize = 65;
+    // So many bytes of a line are looked at: one more than a line may have makes it too long.
+    pub const LINE: usize = Line::LIMIT + 1;
 
     // Lines of a day, at most.
     pub const LINES: u32 = 65535;
@@ -102,7 +105,7 @@ fn is_whole(line: &[u8], n: usize) -> bool
     ensures { λ r. ⌜ r ≡ wholeLine (take n (now (line .entry))) ⌝ }
 {
     let m = present(line, n);
-    if m >= Feed::ENOUGH {
+    if m >= Feed::LINE {
         return true;
     }
     if m == 0 {
@@ -113,14 +116,14 @@ fn is_whole(line: &[u8], n: usize) -> bool
 
 // A line with bytes of a piece in it.
 struct Filled {
-    line: [u8; 65],
+    line: [u8; Feed::LINE],
     used: usize,
     feed: Feed,
 }
 
 impl Feed {
     // Whether a whole line is to be done.
-    pub fn waits(self, line: &[u8; 65]) -> bool
+    pub fn waits(self, line: &[u8; Feed::LINE]) -> bool
         ensures { λ r. ⌜ Waits self (now (line .entry)) r ⌝ }
     {
         !self.over & is_whole(line, self.length)
@@ -133,7 +136,7 @@ impl Feed {
         self.over
     }
 
-    fn fill(self, bytes: [u8; 65], piece: &[u8]) -> Filled
+    fn fill(self, bytes: [u8; Feed::LINE], piece: &[u8]) -> Filled
         ensures { λ r. ⌜ Fills self bytes (now (piece .entry)) r ⌝ }
     {
         let mut line = bytes;
@@ -145,7 +148,7 @@ impl Feed {
             line[n] = x;
             n += 1;
             i += 1;
-            shut = (n >= Feed::ENOUGH) | (x == b'\n');
+            shut = (n >= Feed::LINE) | (x == b'\n');
         }
         let mut feed = self;
         feed.length = n;
@@ -157,7 +160,7 @@ impl Feed {
     }
 
     // Bytes of a piece, up to the line feed of the line under way or until it is too long; none where a whole line is to be done, or the sheet is over.
-    pub fn take(self, line: &mut [u8; 65], piece: &[u8]) -> Taken
+    pub fn take(self, line: &mut [u8; Feed::LINE], piece: &[u8]) -> Taken
         ensures { λ r. ⌜ TakesTo self (now (line .entry)) (now (piece .entry)) r (now (line .exit)) ⌝ }
     {
         let filled = self.fill(*line, piece);
@@ -251,18 +254,13 @@ impl Feed {
 
 impl Feed {
     // The next line, on the fresh channel of a table.
-    fn listed(
-        self,
-        words: &mut [u32; 80],
-        whole: &mut [bool; 256],
-        servers: [Server; 16],
-        period: Period,
-    ) -> Step
-        requires { ⌜ self .number ≤ lastLine ⌝ }
-        ensures { λ r. ⌜ Becomes self (now (words .entry)) (now (whole .entry)) (λ f c. going f [] (on atServers (fresh (record { servers = servers }) (beatLimit period)))) r (now (words .exit)) (now (whole .exit)) ⌝ }
+    fn listed(self, words: &mut Packed, whole: &mut Links, table: Table, period: Period) -> Step
+        requires { ⌜ (self .number ≤ lastLine) × (isTable (table .servers) ≡ true) ⌝ }
+        ensures { λ r. ⌜ Becomes self (now (words .entry)) (now (whole .entry)) (λ f c. going f [] (on atServers (fresh table (beatLimit period)))) r (now (words .exit)) (now (whole .exit)) ⌝ }
     {
+        let servers = table.servers();
         *words = places::words_of(servers);
-        *whole = [true; 256];
+        *whole = [true; Table::LINKS];
         let mut next = self.turned(Stage::AtServers);
         next.frame = 0;
         next.period = period;
@@ -272,32 +270,19 @@ impl Feed {
         }
     }
 
-    fn first_line(
-        self,
-        words: &mut [u32; 80],
-        whole: &mut [bool; 256],
-        period: u32,
-        out: &mut [u8],
-    ) -> Step
+    fn first_line(self, words: &mut Packed, whole: &mut Links, period: u32, out: &mut [u8]) -> Step
         requires { ⌜ (self .number ≤ lastLine) × (leastPeriod ≤ period) × (period ≤ greatestPeriod) ⌝ }
         ensures { λ r. ⌜ Does self (now (words .entry)) (now (whole .entry)) (λ f c. going f [] (on atServers (fresh empty period))) (now (out .entry)) r (now (words .exit)) (now (whole .exit)) (now (out .exit)) ⌝ }
     {
         let table = Table::empty();
-        let servers = table.servers;
         match Period::of(period) {
-            PeriodAnswer::Is(p) => self.listed(words, whole, servers, p),
+            PeriodAnswer::Is(p) => self.listed(words, whole, table, p),
             PeriodAnswer::Refused(k) => self.stop(k, out),
         }
     }
 
     // `period`: 4.
-    fn set_period(
-        self,
-        words: &mut [u32; 80],
-        whole: &mut [bool; 256],
-        period: u32,
-        out: &mut [u8],
-    ) -> Step
+    fn set_period(self, words: &mut Packed, whole: &mut Links, period: u32, out: &mut [u8]) -> Step
         requires { ⌜ (self .number ≤ lastLine) × (leastPeriod ≤ period) × (period ≤ greatestPeriod) ⌝ }
         ensures { λ r. ⌜ Does self (now (words .entry)) (now (whole .entry)) (λ f c. effectMove f (periodEffect (f .day .stage) period)) (now (out .entry)) r (now (words .exit)) (now (whole .exit)) (now (out .exit)) ⌝ }
     {
@@ -311,10 +296,33 @@ impl Feed {
     }
 
     // 5, 6.
+    fn add_to(
+        self,
+        words: &mut Packed,
+        whole: &mut Links,
+        table: Table,
+        identity: u16,
+        priority: u8,
+        out: &mut [u8],
+    ) -> Step
+        requires { ⌜ (self .number ≤ lastLine) × (table .servers ≡ serversOf (now words)) ⌝ }
+        ensures { λ r. ⌜ Does self (now (words .entry)) (now (whole .entry)) (λ f c. effectMove f (addEffect c identity priority)) (now (out .entry)) r (now (words .exit)) (now (whole .exit)) (now (out .exit)) ⌝ }
+    {
+        let added = table.add(identity, priority);
+        let verdict = added.verdict;
+        let longer = added.table;
+        let period = self.period;
+        match verdict {
+            Verdict::Accepted => self.listed(words, whole, longer, period),
+            Verdict::Refused(k) => self.stop(k, out),
+        }
+    }
+
+    // The same, of the servers so far.
     fn add(
         self,
-        words: &mut [u32; 80],
-        whole: &mut [bool; 256],
+        words: &mut Packed,
+        whole: &mut Links,
         identity: u16,
         priority: u8,
         out: &mut [u8],
@@ -322,15 +330,11 @@ impl Feed {
         requires { ⌜ self .number ≤ lastLine ⌝ }
         ensures { λ r. ⌜ Does self (now (words .entry)) (now (whole .entry)) (λ f c. effectMove f (addEffect c identity priority)) (now (out .entry)) r (now (words .exit)) (now (whole .exit)) (now (out .exit)) ⌝ }
     {
-        let servers = places::servers_of(words);
-        let table = Table { servers };
-        let added = table.add(identity, priority);
-        let verdict = added.verdict;
-        let longer = added.table;
-        let more = longer.servers;
-        let period = self.period;
+        let made = Table::of(places::servers_of(words));
+        let verdict = made.verdict;
+        let table = made.table;
         match verdict {
-            Verdict::Accepted => self.listed(words, whole, more, period),
+            Verdict::Accepted => self.add_to(words, whole, table, identity, priority, out),
             Verdict::Refused(k) => self.stop(k, out),
         }
     }
@@ -338,8 +342,8 @@ impl Feed {
     // `server`: 4.
     fn add_server(
         self,
-        words: &mut [u32; 80],
-        whole: &mut [bool; 256],
+        words: &mut Packed,
+        whole: &mut Links,
         identity: u16,
         priority: u8,
         out: &mut [u8],
@@ -361,18 +365,28 @@ impl Feed {
 
 impl Feed {
     // 6, 7.
-    fn complete(self, words: &[u32; 80]) -> Verdict
+    fn complete(self, words: &Packed) -> Verdict
         ensures { λ r. ⌜ ofVerdict r ≡ freshRefusal (record { servers = serversOf (now (words .entry)) }) (beatLimit (self .period)) ⌝ }
     {
-        let servers = places::servers_of(words);
-        let table = Table { servers };
+        let made = Table::of(places::servers_of(words));
+        let verdict = made.verdict;
+        let table = made.table;
+        match verdict {
+            Verdict::Accepted => self.opens(table),
+            Verdict::Refused(k) => Verdict::Refused(k),
+        }
+    }
+
+    fn opens(self, table: Table) -> Verdict
+        ensures { λ r. ⌜ ofVerdict r ≡ freshRefusal table (beatLimit (self .period)) ⌝ }
+    {
         let period = self.period;
         let opened = State::fresh(table, period.beat_limit());
         opened.verdict
     }
 
     // Whether entries may come: 4, 6, 7.
-    fn open(self, words: &[u32; 80]) -> Verdict
+    fn open(self, words: &Packed) -> Verdict
         ensures { λ r. ⌜ Opens self (now (words .entry)) r ⌝ }
     {
         let stage = self.stage;
@@ -395,7 +409,7 @@ impl Feed {
     }
 
     // As many frames towards a later time as fit; 9.
-    fn advance(self, words: &mut [u32; 80], whole: &[bool; 256], time: u32, out: &mut [u8]) -> Step
+    fn advance(self, words: &mut Packed, whole: &Links, time: u32, out: &mut [u8]) -> Step
         requires { ⌜ self .frame < time ⌝ }
         ensures { λ r. ⌜ Does self (now (words .entry)) (now (whole .entry)) (λ f c. advancing f c (framesNow c (time - c .frame) (length (now (out .entry))))) (now (out .entry)) r (now (words .exit)) (now (whole .entry)) (now (out .exit)) ⌝ }
     {
@@ -442,8 +456,8 @@ impl Feed {
     // The verb of an entry at the present time; 9.
     fn call(
         self,
-        words: &mut [u32; 80],
-        whole: &mut [bool; 256],
+        words: &mut Packed,
+        whole: &mut Links,
         verb: Verb,
         a: u16,
         b: u16,
@@ -466,8 +480,8 @@ impl Feed {
     // An entry on the channel: 8, 11, its time, its verb.
     fn enter(
         self,
-        words: &mut [u32; 80],
-        whole: &mut [bool; 256],
+        words: &mut Packed,
+        whole: &mut Links,
         time: u32,
         verb: Verb,
         a: u16,
@@ -490,7 +504,7 @@ impl Feed {
     }
 
     // `end` on the channel: 11, its time.
-    fn end(self, words: &mut [u32; 80], whole: &[bool; 256], time: u32, out: &mut [u8]) -> Step
+    fn end(self, words: &mut Packed, whole: &Links, time: u32, out: &mut [u8]) -> Step
         requires { ⌜ self .number ≤ lastLine ⌝ }
         ensures { λ r. ⌜ Does self (now (words .entry)) (now (whole .entry)) (λ f c. onMove f (length (now (out .entry))) c (end time) (endEffect c time)) (now (out .entry)) r (now (words .exit)) (now (whole .entry)) (now (out .exit)) ⌝ }
     {
@@ -510,8 +524,8 @@ impl Feed {
     // An entry: 4, 6, 7 before all else.
     fn enter_open(
         self,
-        words: &mut [u32; 80],
-        whole: &mut [bool; 256],
+        words: &mut Packed,
+        whole: &mut Links,
         time: u32,
         verb: Verb,
         a: u16,
@@ -529,7 +543,7 @@ impl Feed {
     }
 
     // `end`: 4, 6, 7 before all else.
-    fn end_open(self, words: &mut [u32; 80], whole: &[bool; 256], time: u32, out: &mut [u8]) -> Step
+    fn end_open(self, words: &mut Packed, whole: &Links, time: u32, out: &mut [u8]) -> Step
         requires { ⌜ self .number ≤ lastLine ⌝ }
         ensures { λ r. ⌜ Does self (now (words .entry)) (now (whole .entry)) (λ f c. placedMove f (length (now (out .entry))) (end time)) (now (out .entry)) r (now (words .exit)) (now (whole .entry)) (now (out .exit)) ⌝ }
     {
@@ -574,13 +588,7 @@ fn read(line: &[u8], n: usize) -> DayLine
 
 impl Feed {
     // A line of the first 65,535.
-    fn perform(
-        self,
-        words: &mut [u32; 80],
-        whole: &mut [bool; 256],
-        line: DayLine,
-        out: &mut [u8],
-    ) -> Step
+    fn perform(self, words: &mut Packed, whole: &mut Links, line: DayLine, out: &mut [u8]) -> Step
         requires { ⌜ (self .number ≤ lastLine) × Sized (ofDayLine line) ⌝ }
         ensures { λ r. ⌜ Does self (now (words .entry)) (now (whole .entry)) (λ f c. placedMove f (length (now (out .entry))) (ofDayLine line)) (now (out .entry)) r (now (words .exit)) (now (whole .exit)) (now (out .exit)) ⌝ }
     {
@@ -601,13 +609,7 @@ impl Feed {
     }
 
     // A line.
-    fn go(
-        self,
-        words: &mut [u32; 80],
-        whole: &mut [bool; 256],
-        line: DayLine,
-        out: &mut [u8],
-    ) -> Step
+    fn go(self, words: &mut Packed, whole: &mut Links, line: DayLine, out: &mut [u8]) -> Step
         requires { ⌜ Sized (ofDayLine line) ⌝ }
         ensures { λ r. ⌜ Does self (now (words .entry)) (now (whole .entry)) (λ f c. lineMove f (length (now (out .entry))) (ofDayLine line)) (now (out .entry)) r (now (words .exit)) (now (whole .exit)) (now (out .exit)) ⌝ }
     {
@@ -620,9 +622,9 @@ impl Feed {
     // What a whole line does, as far as the slice has room: as many frames as fit of those before its time, and where there are none, the line itself. Nothing where no whole line is there; 9.
     pub fn step(
         self,
-        line: &[u8; 65],
-        words: &mut [u32; 80],
-        whole: &mut [bool; 256],
+        line: &[u8; Feed::LINE],
+        words: &mut Packed,
+        whole: &mut Links,
         out: &mut [u8],
     ) -> Step
         ensures { λ r. ⌜ Makes (fedOf self (now (line .entry)) (now (words .entry)) (now (whole .entry))) (stepMove (fedOf self (now (line .entry)) (now (words .entry)) (now (whole .entry))) (length (now (out .entry)))) (now (out .entry)) (r .written) (fedOf (r .feed) (now (line .entry)) (now (words .exit)) (now (whole .exit))) (now (out .exit)) ⌝ }
@@ -640,9 +642,9 @@ impl Feed {
     // A second step after n bytes, of a line that was read, if it is still to be done and there is room.
     fn second(
         self,
-        line: &[u8; 65],
-        words: &mut [u32; 80],
-        whole: &mut [bool; 256],
+        line: &[u8; Feed::LINE],
+        words: &mut Packed,
+        whole: &mut Links,
         read: DayLine,
         n: usize,
         out: &mut [u8],
@@ -674,9 +676,9 @@ impl Feed {
     // A step, and a second one where the line is still to be done and there is room for it; 9.
     pub fn steps(
         self,
-        line: &[u8; 65],
-        words: &mut [u32; 80],
-        whole: &mut [bool; 256],
+        line: &[u8; Feed::LINE],
+        words: &mut Packed,
+        whole: &mut Links,
         out: &mut [u8],
     ) -> Step
         ensures { λ r. ⌜ Makes (fedOf self (now (line .entry)) (now (words .entry)) (now (whole .entry))) (stepsMove (fedOf self (now (line .entry)) (now (words .entry)) (now (whole .entry))) (length (now (out .entry)))) (now (out .entry)) (r .written) (fedOf (r .feed) (now (line .entry)) (now (words .exit)) (now (whole .exit))) (now (out .exit)) ⌝ }
@@ -725,7 +727,7 @@ impl Feed {
     }
 
     // No byte is to come: 1 where the last line has no line feed, 4 where `end` is missing. Then the sheet is over. Nothing where a whole line is to be done first; 9.
-    pub fn finish(self, line: &[u8; 65], out: &mut [u8]) -> Step
+    pub fn finish(self, line: &[u8; Feed::LINE], out: &mut [u8]) -> Step
         ensures { λ r. ⌜ Finishes self (now (line .entry)) (now (out .entry)) r (now (out .exit)) ⌝ }
     {
         if self.over | is_whole(line, self.length) {

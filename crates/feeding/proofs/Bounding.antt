@@ -3,7 +3,7 @@ use mathlib.Core.Path.{_≡_, refl, sym, ap, subst, _∙_}
 use mathlib.Core.List.{List, [], _∷_, _++_, append-nil}
 use Prim.Native.Nat.{ℕ, suc, _-_, _≤_, _<_}
 use native.Mathlib.Omega.{arith}
-use borrow.Author.Tests.{eq-eqb, ne-eqb, lt-ltb, le-ltb, le-leb, lt-leb, leb-true}
+use borrow.Author.Tests.{eq-eqb, ne-eqb, lt-ltb, le-ltb, le-leb, lt-leb, leb-true, eqb-true}
 use lib.Dec.{leb, eqb}
 use lib.ListN.{length, length-append}
 use Rattle.lists.proofs.Cases.{equal, less, tested, on, chosen, other, by-choice, bit-small}
@@ -12,7 +12,7 @@ use Rattle.text.specs.Digits.{digits}
 use Rattle.text.proofs.Digits.{digits-few}
 use Rattle.lines.specs.Lines.{refusedWord}
 use Rattle.lines.proofs.Pieces.{line-long}
-use Rattle.server.specs.declared.Verb.{Verb}
+use Rattle.roles.specs.declared.Verb.{Verb}
 use Rattle.group.specs.declared.State.{State}
 use Rattle.group.specs.Table.{addRefusal, freshRefusal}
 use Rattle.group.specs.Hearing.{place}
@@ -79,10 +79,11 @@ add-short : (c : State) (i p : ℕ) → i < 65536 → SmallChannel c → Short (
 unfolding addEffect addRefusal
 add-short c i p h q =
     by-choice Short (eqb (addRefusal (tableOf c) i) 0)
-    (λ t. (omega arith, calm-added (tableOf c) i p 0 (c .period .frames) h (record { places = q .places; small = q .small })))
+    (λ t. (omega arith, calm-added (tableOf c) i p (c .period .frames) h (eqb-true (addRefusal (tableOf c) i) 0 t) (q .places) (q .small)))
     (λ t.
-    by-choice (λ (n : ℕ). n < 100) (eqb i 0) (λ t. omega arith)
-    (λ t. by-choice (λ (n : ℕ). n < 100) _ (λ t. omega arith) (λ t. by-choice (λ (n : ℕ). n < 100) _ (λ t. omega arith) (λ t. omega arith))))
+    by-choice (λ (n : ℕ). n < 100) _
+    (λ t. by-choice (λ (n : ℕ). n < 100) _ (λ t. omega arith) (λ t. by-choice (λ (n : ℕ). n < 100) _ (λ t. omega arith) (λ t. omega arith)))
+    (λ t. omega arith))
 
 call-short : (c : State) (v : Verb) (a b : ℕ) → a < 65536 → b < 65536 → SmallChannel c → Short (callEffect [] c v a b)
 call-short c v a b h p q =

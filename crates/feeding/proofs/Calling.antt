@@ -16,11 +16,12 @@ use Rattle.refusal.proofs.Answers.{number-some}
 use Rattle.text.specs.declared.Written.the-variants as written
 use Rattle.text.specs.Write.{writing, wrote, Writes}
 use Rattle.text.proofs.Writing.{writes-to}
-use Rattle.server.specs.declared.Role.{Role}
+use Rattle.roles.specs.declared.Role.{Role}
 use Rattle.server.specs.declared.Server.{Server}
-use Rattle.server.specs.declared.Verb.{Verb}
-use Rattle.server.specs.declared.Verb.the-variants.{Start, Ready, Unready, Pass, Crash, Restart, Cut, Mend}
-use Rattle.server.specs.Verbs.{from, enters, verbAnswer}
+use Rattle.roles.specs.declared.Verb.{Verb}
+use Rattle.roles.specs.declared.Verb.the-variants.{Start, Ready, Unready, Pass, Crash, Restart, Cut, Mend}
+use Rattle.roles.specs.Verbs.{from, enters}
+use Rattle.server.specs.Verbs.{verbAnswer}
 use Rattle.group.specs.declared.State.{State}
 use Rattle.group.specs.Outcome.{Outcome, numberIn, channelIn, writtenIn, sliceIn}
 use Rattle.group.specs.Answers.{Gives}

@@ -1,37 +1,37 @@
 -- Servers stay small. Assumes nothing.
 use mathlib.Core.Bool.{Bool}
-use mathlib.Core.Path.{sym, subst, _∙_}
+use mathlib.Core.Path.{_≡_, sym, ap, subst, _∙_}
 use mathlib.Core.List.{List, [], _∷_}
 use Prim.Native.Nat.{ℕ, zero, suc, _+_, _≤_, _<_}
 use native.Mathlib.Omega.{arith}
-use borrow.Author.Tests.{ltb-true}
+use borrow.Author.Tests.{ltb-true, eq-eqb}
 use lib.Dec.{ltb, eqb}
 use lib.ListN.{length, getD, set, replicate, length-set, length-replicate, List·getD-eq-default}
 use Rattle.lists.specs.Choice.{choose}
-use Rattle.lists.proofs.Cases.{less, on, by-choice}
+use Rattle.lists.proofs.Cases.{less, chosen, on, by-choice}
 use Rattle.refusal.specs.Answer.{Answer}
 use Rattle.heartbeat.specs.declared.Heartbeat.{Heartbeat}
-use Rattle.server.specs.declared.Role.{Role}
-use Rattle.server.specs.declared.Role.the-variants.{Down, Idle, Sync, Backup, Prospect, Primary}
-use Rattle.server.specs.declared.Event.{Event}
-use Rattle.server.specs.declared.Event.the-variants as event
-use Rattle.server.specs.declared.Period.{Period}
+use Rattle.roles.specs.declared.Role.{Role}
+use Rattle.roles.specs.declared.Role.the-variants.{Down, Idle, Sync, Backup, Prospect, Primary}
+use Rattle.roles.specs.declared.Event.{Event}
+use Rattle.roles.specs.declared.Event.the-variants as event
+use Rattle.periods.specs.declared.Period.{Period}
 use Rattle.server.specs.declared.Server.{Server}
-use Rattle.server.specs.declared.Verb.{Verb}
-use Rattle.server.specs.declared.Verb.the-variants.{Start, Ready, Unready, Pass, Crash, Restart, Cut, Mend}
+use Rattle.roles.specs.declared.Verb.{Verb}
+use Rattle.roles.specs.declared.Verb.the-variants.{Start, Ready, Unready, Pass, Crash, Restart, Cut, Mend}
 use Rattle.server.specs.Server.{absent, idle, oneMore, mostBeats, cleared, after}
-use Rattle.hearing.specs.Hearing.{backupHears, prospectHears, primaryHears, hearsIn, attending, heard}
+use Rattle.server.specs.Hearing.{backupHears, prospectHears, primaryHears, hearsIn, attending, heard, heardAll}
 use Rattle.server.specs.Timers.{silentIn, beatingIn, risingIn, afterSilent, afterBeating, afterRising, timed}
-use Rattle.server.specs.Verbs.{entering, verbEvent, verbHappens}
+use Rattle.roles.specs.Verbs.{entering, verbEvent, verbHappens}
 use Rattle.group.specs.declared.State.{State}
 use Rattle.group.specs.declared.Table.{Table}
 use Rattle.group.specs.Table.{most, empty, standsBefore, enter, addRefusal, added, fresh}
 use Rattle.group.specs.Hearing.{place}
-use Rattle.group.specs.Frame.{heardAll, hearing, turned, advanced}
+use Rattle.group.specs.Frame.{hearing, turned, advanced}
 use Rattle.group.specs.Verbs.{did}
 use Rattle.group.specs.Advance.{advancedBy}
 use Rattle.group.proofs.Places.{place-advanced, long-advanced}
-use Rattle.group.proofs.Made.{length-enter}
+use Rattle.group.proofs.Made.{length-enter, table-empty, table-added, same-servers}
 use Rattle.feeding.specs.Bound.{Small, SmallChannel}
 
 -- ---- one server
@@ -173,19 +173,25 @@ every-empty (suc n) (suc i) = every-empty n i
 -- ---- channels
 
 pub calm-empty : (p : ℕ) → SmallChannel (fresh empty p)
-calm-empty p = record { places = length-replicate most absent; small = every-empty most }
+calm-empty p =
+    let e = same-servers (replicate most absent) table-empty in
+    record { places = ap length e ∙ length-replicate most absent; small = λ i. subst (λ (l : List Server). Small (getD l i absent)) (sym e) (every-empty most i) }
 
--- the servers of a table do not depend on the period
-pub calm-added : (t : Table) (i p n m : ℕ) → i < 65536 → SmallChannel (fresh t n) → SmallChannel (fresh (added t i p) m)
+pub calm-added :
+    (t : Table) (i p n : ℕ) → i < 65536 → addRefusal t i ≡ 0 → length (t .servers) ≡ most → ((k : ℕ) → Small (getD (t .servers) k absent)) →
+    SmallChannel (fresh (added t i p) n)
 unfolding added
-calm-added t i p n m h c =
-    by-choice (λ (x : Table). SmallChannel (fresh x m)) (eqb (addRefusal t i) 0)
-    (λ e.
+calm-added t i p n h z long small =
+    let l = enter (idle i p) (t .servers) in
+    let is : added t i p .servers ≡ l = ap (λ (x : Table). x .servers) (chosen _ (eq-eqb (addRefusal t i) 0 z)) in
+    let same = same-servers (added t i p .servers) (table-added t i p z) ∙ is in
     record {
-      places = length-enter (idle i p) (t .servers) ∙ c .places;
-      small = every-enter (idle i p) (t .servers) (c .small) (record { identity = h; beats = omega arith; pass = omega arith });
-    })
-    (λ e. record { places = c .places; small = c .small })
+      places = ap length same ∙ length-enter (idle i p) (t .servers) ∙ long;
+      small =
+          λ k.
+          subst (λ (m : List Server). Small (getD m k absent)) (sym same)
+          (every-enter (idle i p) (t .servers) small (record { identity = h; beats = omega arith; pass = omega arith }) k);
+    }
 
 calm-next : (c : State) → SmallChannel c → SmallChannel (advanced c)
 calm-next c q =

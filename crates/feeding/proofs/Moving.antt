@@ -12,9 +12,9 @@ use Rattle.lists.specs.Choice.{choose}
 use Rattle.lists.proofs.Cases.{equal, less, tested, on, chosen, other, fst-true, snd-true}
 use Rattle.heartbeat.specs.declared.Rank.{Rank}
 use Rattle.server.specs.declared.Server.{Server}
-use Rattle.server.specs.declared.Verb.{Verb}
+use Rattle.roles.specs.declared.Verb.{Verb}
 use Rattle.server.specs.Server.{absent, rankOf}
-use Rattle.server.specs.Verbs.{paired}
+use Rattle.roles.specs.Verbs.{paired}
 use Rattle.group.specs.declared.State.{State}
 use Rattle.group.specs.Table.{placeIn, most}
 use Rattle.group.specs.Verbs.{known, verbOutcome}
@@ -39,7 +39,7 @@ same-place j [] [] n h = refl
 same-place j [] (y ∷ m) n h = absurd (omega arith)
 same-place j (x ∷ l) [] n h = absurd (omega arith)
 same-place j (x ∷ l) (y ∷ m) n h =
-    ap₂ (λ (t : Bool) (k : ℕ). choose t 0 (suc k)) (ap (λ (r : Rank). eqb (r .identity) j) (h 0)) (same-place j l m (omega arith) (λ i. h (suc i)))
+    ap₂ (λ (t : Bool) (k : ℕ). choose t 0 (suc k)) (ap (λ (r : Rank). not (eqb j 0) && eqb (r .identity) j) (h 0)) (same-place j l m (omega arith) (λ i. h (suc i)))
 
 pub same-known : (k : ℕ) (c : State) (v : Verb) (a b : ℕ) → known (advancedBy k c) v a b ≡ known c v a b
 unfolding known

@@ -8,7 +8,7 @@ use borrow.Author.Tests.{eq-eqb, ne-eqb, lt-ltb, le-ltb, le-leb, lt-leb}
 use lib.Dec.{eqb}
 use Rattle.lists.specs.Choice.{choose}
 use Rattle.lists.proofs.Cases.{chosen, other, same-choice}
-use Rattle.server.specs.declared.Verb.{Verb}
+use Rattle.roles.specs.declared.Verb.{Verb}
 use Rattle.group.specs.declared.State.{State}
 use Rattle.group.specs.Verbs.{known}
 use Rattle.group.specs.Advance.{advancedBy, linesBy}

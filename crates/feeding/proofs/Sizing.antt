@@ -16,9 +16,9 @@ use Rattle.timecode.specs.Label.{dayLength}
 use Rattle.timecode.specs.Read.{isLabel, readTimecode}
 use Rattle.timecode.proofs.Labels.{is-label, in-day}
 use Rattle.heartbeat.specs.Rank.{readIdentity, readPriority}
-use Rattle.server.specs.declared.Verb.{Verb}
-use Rattle.server.specs.Verbs.{paired}
-use Rattle.server.specs.Period.{leastPeriod, greatestPeriod}
+use Rattle.roles.specs.declared.Verb.{Verb}
+use Rattle.roles.specs.Verbs.{paired}
+use Rattle.periods.specs.Period.{leastPeriod, greatestPeriod}
 use Rattle.day.specs.Read.{DayLine, Named, called, unknown, whenGood, having, entryFields, entryLine, verbNamed, bodyRead, lineRead}
 use Rattle.feeding.specs.Steps.{Sized}
 

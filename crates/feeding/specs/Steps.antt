@@ -3,7 +3,7 @@ use Prim.Native.Nat.{ℕ, _≤_, _<_}
 use lib.Dec.{eqb}
 use Rattle.lists.specs.Choice.{choose}
 use Rattle.timecode.specs.Label.{dayLength}
-use Rattle.server.specs.Period.{leastPeriod, greatestPeriod}
+use Rattle.periods.specs.Period.{leastPeriod, greatestPeriod}
 use Rattle.group.specs.declared.State.{State}
 use Rattle.day.specs.Read.{DayLine, wrong, period, server, entry, end}
 use Rattle.day.specs.Day.{Effect}

@@ -11,14 +11,14 @@ use lib.ListN.{length, getD, replicate, length-append, length-replicate}
 use Rattle.lists.specs.Choice.{choose}
 use Rattle.text.proofs.Digits.{digits-few}
 use Rattle.heartbeat.specs.declared.Heartbeat.{Heartbeat}
-use Rattle.server.specs.declared.Said.{Said}
-use Rattle.server.specs.declared.Said.the-variants as says
+use Rattle.roles.specs.declared.Said.{Said}
+use Rattle.roles.specs.declared.Said.the-variants as says
 use Rattle.server.specs.declared.Server.{Server}
 use Rattle.server.specs.declared.Timed.{Timed}
-use Rattle.server.specs.declared.Word.{Word}
+use Rattle.roles.specs.declared.Word.{Word}
 use Rattle.server.specs.Server.{absent, cleared, plainOf, revealOf, passOf, sentBy}
-use Rattle.hearing.specs.Hearing.{heard}
-use Rattle.server.specs.Words.{wordBytes, said}
+use Rattle.server.specs.Hearing.{heard}
+use Rattle.roles.specs.Words.{wordBytes, said}
 use Rattle.server.specs.Timers.{timed}
 use Rattle.lines.specs.Lines.{line, linesOf}
 use Rattle.lines.proofs.Pieces.{line-long, word-short}

@@ -8,16 +8,18 @@ use lib.ListN.{length, drop, getD, set}
 use lib.Seq.{drop-cons, set-getD}
 use Rattle.lists.specs.Lists.{mapFrom}
 use Rattle.heartbeat.specs.declared.Heartbeat.{Heartbeat}
-use Rattle.server.specs.declared.Period.{Period}
+use Rattle.periods.specs.declared.Period.{Period}
 use Rattle.server.specs.declared.Server.{Server}
 use Rattle.server.specs.declared.Timed.{Timed}
 use Rattle.server.specs.Server.{absent, cleared}
 use Rattle.server.specs.Timers.{timed}
 use Rattle.group.specs.declared.State.{State}
-use Rattle.frame.specs.Steps.{Ran, Out, Does, Turns, anySent, Runs, ticksIn, TicksAt, TicksAll, tickLines, resting}
+use Rattle.frame.specs.Answers.{ticksIn}
+use Rattle.frame.specs.Steps.{Ran, Out, Does, Turns, anySent, Runs, TicksAt, TicksAll, tickLines, resting}
 use Rattle.frame.specs.declared.Told.{Told}
 use Rattle.group.specs.Hearing.{inbox}
-use Rattle.group.specs.Frame.{heardAll, heardLines, timedLines, hearing, turned, turnLines, turnsLines, advanced, frameLines}
+use Rattle.server.specs.Hearing.{heardAll}
+use Rattle.group.specs.Frame.{heardLines, timedLines, hearing, turned, turnLines, turnsLines, advanced, frameLines}
 use Rattle.frame.proofs.Quiet.{no-timer, ticks-frame}
 use Rattle.frame.proofs.Hearings.{no-ticks}
 

@@ -9,34 +9,30 @@ use native.Mathlib.Omega.{arith}
 use lib.Dec.{eqb}
 use lib.ListN.{length, replicate}
 use Rattle.lists.specs.Choice.{choose}
-use Rattle.lists.proofs.Cases.{clash, chosen, other, fst-true, snd-true}
+use Rattle.lists.proofs.Cases.{clash, chosen, other, fst-true, snd-true, not-so}
 use Rattle.heartbeat.specs.declared.Heartbeat.{Heartbeat}
-use Rattle.server.specs.declared.Role.{Role}
-use Rattle.server.specs.declared.Role.the-variants as role
-use Rattle.server.specs.declared.Event.{Event}
-use Rattle.server.specs.declared.Event.the-variants as event
-use Rattle.hearing.specs.declared.Heard.{Heard}
+use Rattle.roles.specs.declared.Role.{Role}
+use Rattle.roles.specs.declared.Role.the-variants as role
+use Rattle.roles.specs.declared.Event.{Event}
+use Rattle.roles.specs.declared.Event.the-variants as event
+use Rattle.server.specs.declared.Heard.{Heard}
 use Rattle.server.specs.declared.Server.{Server}
-use Rattle.server.specs.declared.Period.{Period}
+use Rattle.periods.specs.declared.Period.{Period}
 use Rattle.server.specs.declared.Timed.{Timed}
 use Rattle.server.specs.Server.{cleared, after, setSilence, setBeat, sendBeat, plainOf, revealOf, passOf, sentBy}
-use Rattle.hearing.specs.Hearing.{attending, heard, hearsIn, backupHears, forThis}
-use Rattle.server.specs.Period.{silenceLimit}
+use Rattle.server.specs.Hearing.{attending, heard, hearsIn, backupHears, forThis, heardAll}
+use Rattle.periods.specs.Period.{silenceLimit}
 use Rattle.server.specs.Timers.{aged, timed}
-use Rattle.server.specs.Words.{said}
+use Rattle.roles.specs.Words.{said}
 use Rattle.frame.specs.declared.Told.{Told}
 use Rattle.lines.specs.Lines.{linesOf}
-use Rattle.group.specs.Frame.{heardAll, heardLines, timedLines}
+use Rattle.group.specs.Frame.{heardLines, timedLines}
+use Rattle.server.proofs.Hearing.{heard-append}
 use Rattle.places.specs.Roles.{isBackup}
-use Rattle.frame.specs.Steps.{ticksIn, Out, Hears, Does, onlyListens, Turns, JustListens, resting}
-use Rattle.places.proofs.Words.{not-so}
+use Rattle.frame.specs.Answers.{ticksIn}
+use Rattle.frame.specs.Steps.{Out, Hears, Does, onlyListens, Turns, JustListens, resting}
 use Rattle.frame.proofs.Writing.{chain, start}
 use Rattle.frame.proofs.Quiet.{no-timer}
-
-pub heard-append : (t : ℕ) (s : Server) (xs ys : List Heartbeat) → heardAll t s (xs ++ ys) ≡ heardAll t (heardAll t s xs) ys
-unfolding heardAll
-heard-append t s [] ys = refl
-heard-append t s (x ∷ xs) ys = heard-append t (heard t s x .server) xs ys
 
 pub said-append : (t : ℕ) (s : Server) (xs ys : List Heartbeat) → heardLines t s (xs ++ ys) ≡ heardLines t s xs ++ heardLines t (heardAll t s xs) ys
 unfolding heardAll heardLines

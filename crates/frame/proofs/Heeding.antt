@@ -9,29 +9,29 @@ use borrow.Author.Tests.{lt-ltb, le-ltb, ltb-true, eqb-true, eqb-false, eq-eqb}
 use lib.Dec.{eqb, ltb}
 use lib.ListN.{getD, replicate, take}
 use Rattle.lists.specs.Choice.{choose}
-use Rattle.lists.proofs.Cases.{less, on, chosen, other, by-choice, clash, and-right, fst-true, snd-true}
+use Rattle.lists.proofs.Cases.{less, on, chosen, other, by-choice, clash, and-right, fst-true, snd-true, not-so}
 use Rattle.heartbeat.specs.declared.Heartbeat.{Heartbeat}
 use Rattle.heartbeat.specs.Rank.{higher}
 use Rattle.heartbeat.specs.Heartbeat.{isSet}
-use Rattle.server.specs.declared.Role.{Role}
-use Rattle.server.specs.declared.Role.the-variants as role
-use Rattle.server.specs.declared.Event.{Event}
-use Rattle.server.specs.declared.Event.the-variants as event
-use Rattle.hearing.specs.declared.Heard.{Heard}
+use Rattle.roles.specs.declared.Role.{Role}
+use Rattle.roles.specs.declared.Role.the-variants as role
+use Rattle.roles.specs.declared.Event.{Event}
+use Rattle.roles.specs.declared.Event.the-variants as event
+use Rattle.server.specs.declared.Heard.{Heard}
 use Rattle.server.specs.declared.Server.{Server}
 use Rattle.server.specs.Server.{rankOf, setSilence, cleared, plainOf, revealOf, passOf, sentBy, sentAny, after}
-use Rattle.hearing.specs.Hearing.{fromHigher, fromLower, forThis, backupHears, prospectHears, hearsIn, attending, heard}
-use Rattle.server.specs.Words.{said}
+use Rattle.server.specs.Hearing.{fromHigher, fromLower, forThis, backupHears, prospectHears, hearsIn, attending, heard, heardAll}
+use Rattle.roles.specs.Words.{said}
 use Rattle.lines.specs.Lines.{linesOf}
-use Rattle.group.specs.Frame.{heardAll, heardLines}
+use Rattle.group.specs.Frame.{heardLines}
 use Rattle.places.specs.Words.{rankNumber}
 use Rattle.places.specs.Roles.{isBackup, isStill, isProspect, takesPart}
 use Rattle.places.specs.Order.{overBy, comesBy, heardBy}
 use Rattle.frame.specs.Steps.{Out, Hears, heedsOnly, SenderList, senderOf, bestBy, nextBy, sendersBy, sentOf}
-use Rattle.places.proofs.Words.{not-so}
 use Rattle.places.proofs.Roles.{still-by}
 use Rattle.frame.proofs.Writing.{start}
-use Rattle.frame.proofs.Hearings.{heard-append, said-append, backup-is}
+use Rattle.server.proofs.Hearing.{heard-append}
+use Rattle.frame.proofs.Hearings.{said-append, backup-is}
 use Rattle.frame.proofs.Lookup.{higher-number, inboxAfter, some-by, none-by}
 
 -- hearing hs in frame t makes x of s, and nothing is said

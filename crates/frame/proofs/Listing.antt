@@ -16,7 +16,7 @@ use Rattle.server.specs.declared.Server.{Server}
 use Rattle.server.specs.Server.{absent, sentAny}
 use Rattle.places.specs.Words.{rankNumber, sendingNumber}
 use Rattle.frame.specs.Steps.{sentBelow, Still, Ranked, Sends, Lists}
-use Rattle.places.proofs.Words.{Fits}
+use Rattle.places.specs.Steps.{Fits}
 use Rattle.frame.proofs.Lookup.{sent-number}
 use Rattle.frame.proofs.Still.{still-unsent}
 

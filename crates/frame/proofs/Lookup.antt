@@ -15,7 +15,7 @@ use Rattle.lists.proofs.Cases.{tested, less, equal, on, chosen, other, and-left
 use Rattle.heartbeat.specs.declared.Heartbeat.{Heartbeat}
 use Rattle.heartbeat.specs.declared.Rank.{Rank}
 use Rattle.heartbeat.specs.Rank.{higher}
-use Rattle.server.specs.declared.Role.the-variants.{Down}
+use Rattle.roles.specs.declared.Role.the-variants.{Down}
 use Rattle.server.specs.declared.Server.{Server}
 use Rattle.server.specs.Server.{absent, rankOf, sentBy, sentAny}
 use Rattle.group.specs.declared.State.{State}

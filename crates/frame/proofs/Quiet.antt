@@ -13,25 +13,27 @@ use Rattle.lists.specs.Lists.{mapFrom, anyBelow}
 use Rattle.lists.proofs.Cases.{less, chosen, other, clash, fst-true, snd-true, or-false}
 use Rattle.lists.proofs.AnyLoop.{none-below}
 use Rattle.heartbeat.specs.declared.Heartbeat.{Heartbeat}
-use Rattle.server.specs.declared.Role.{Role}
-use Rattle.server.specs.declared.Role.the-variants as role
-use Rattle.server.specs.declared.Event.{Event}
-use Rattle.server.specs.declared.Event.the-variants.{Nothing, Beat}
-use Rattle.server.specs.declared.Period.{Period}
+use Rattle.roles.specs.declared.Role.{Role}
+use Rattle.roles.specs.declared.Role.the-variants as role
+use Rattle.roles.specs.declared.Event.{Event}
+use Rattle.roles.specs.declared.Event.the-variants.{Nothing, Beat}
+use Rattle.periods.specs.declared.Period.{Period}
 use Rattle.server.specs.declared.Server.{Server}
 use Rattle.server.specs.declared.Timed.{Timed}
 use Rattle.server.specs.Server.{absent, setSent, setBeat, sendBeat, cleared, sentAny, after}
-use Rattle.server.specs.Period.{silenceLimit, prospectLimit, beatLimit}
-use Rattle.server.specs.Verbs.{roleNumber}
+use Rattle.periods.specs.Period.{silenceLimit, prospectLimit, beatLimit}
+use Rattle.roles.specs.Roles.{roleNumber}
 use Rattle.server.specs.Timers.{aged, silent, silentIn, beating, beatingIn, rising, risingIn, afterSilent, afterBeating, afterRising, timed}
 use Rattle.group.specs.declared.State.{State}
 use Rattle.group.specs.Table.{most}
 use Rattle.lines.specs.Lines.{linesOf}
 use Rattle.group.specs.Hearing.{inbox}
-use Rattle.group.specs.Frame.{heardAll, heardLines, timedLines, hearing, turned, turnLines, turnsLines, advanced, frameLines, movedTo}
+use Rattle.server.specs.Hearing.{heardAll}
+use Rattle.group.specs.Frame.{heardLines, timedLines, hearing, turned, turnLines, turnsLines, advanced, frameLines, movedTo}
 use Rattle.group.specs.Advance.{advancedBy, linesBy}
 use Rattle.places.specs.Roles.{isPrimary}
-use Rattle.frame.specs.Steps.{ticksIn, anySent, ticked, tickLines, NotDue, resting, Rests, AllRest}
+use Rattle.frame.specs.Answers.{ticksIn}
+use Rattle.frame.specs.Steps.{anySent, ticked, tickLines, NotDue, resting, Rests, AllRest}
 use Rattle.group.proofs.Laws as law
 
 -- ---- timers that are not due

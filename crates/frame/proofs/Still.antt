@@ -7,26 +7,25 @@ use Prim.Native.Nat.{ℕ, suc, _+_, _-_, _≤_, _<_}
 use native.Mathlib.Omega.{arith}
 use lib.ListN.{length, getD, drop, length-drop}
 use lib.Seq.{getD-drop}
-use Rattle.lists.proofs.Cases.{less, clash}
+use Rattle.lists.proofs.Cases.{less, clash, not-so, not-some}
 use Rattle.heartbeat.specs.declared.Heartbeat.{Heartbeat}
-use Rattle.server.specs.declared.Role.{Role}
-use Rattle.server.specs.declared.Role.the-variants.{Down, Idle, Sync, Backup, Prospect, Primary}
-use Rattle.server.specs.declared.Event.{Event}
-use Rattle.server.specs.declared.Event.the-variants.{Nothing}
-use Rattle.server.specs.declared.Period.{Period}
+use Rattle.roles.specs.declared.Role.{Role}
+use Rattle.roles.specs.declared.Role.the-variants.{Down, Idle, Sync, Backup, Prospect, Primary}
+use Rattle.roles.specs.declared.Event.{Event}
+use Rattle.roles.specs.declared.Event.the-variants.{Nothing}
+use Rattle.periods.specs.declared.Period.{Period}
 use Rattle.server.specs.declared.Server.{Server}
 use Rattle.server.specs.declared.Timed.{Timed}
 use Rattle.server.specs.Server.{absent, cleared, sentAny, after}
-use Rattle.hearing.specs.Hearing.{heard, hearsIn, attending}
-use Rattle.server.specs.Words.{said}
+use Rattle.server.specs.Hearing.{heard, hearsIn, attending, heardAll}
+use Rattle.roles.specs.Words.{said}
 use Rattle.server.specs.Timers.{timed}
 use Rattle.lines.specs.Lines.{linesOf}
 use Rattle.group.specs.declared.State.{State}
 use Rattle.group.specs.Hearing.{inbox}
-use Rattle.group.specs.Frame.{heardAll, heardLines, timedLines, hearing, turned, turnLines, turnsLines}
+use Rattle.group.specs.Frame.{heardLines, timedLines, hearing, turned, turnLines, turnsLines}
 use Rattle.places.specs.Roles.{stillIn, isStill}
 use Rattle.frame.specs.Steps.{Still, tickLines, resting, Rests, AllRest}
-use Rattle.places.proofs.Words.{not-so, not-some}
 use Rattle.frame.proofs.Quiet.{clear-already, rests-down, rests-idle, rests-sync, Resting}
 
 -- ---- the loop that finds the first place from which on all are still

@@ -14,7 +14,8 @@ use Rattle.server.specs.Server.{absent, cleared}
 use Rattle.server.specs.Timers.{timed}
 use Rattle.group.specs.declared.State.{State}
 use Rattle.group.specs.Hearing.{inbox}
-use Rattle.group.specs.Frame.{heardAll, heardLines, timedLines, hearing, turned, turnLines, turnsLines, advanced, frameLines}
+use Rattle.server.specs.Hearing.{heardAll}
+use Rattle.group.specs.Frame.{heardLines, timedLines, hearing, turned, turnLines, turnsLines, advanced, frameLines}
 use Rattle.places.specs.Roles.{isStill}
 use Rattle.frame.specs.Steps.{Out, Deaf, clearing, Still, Ran, Runs, ticked, tickLines, TicksAll}
 use Rattle.frame.proofs.Still.{still-clear}

@@ -1,5 +1,5 @@
 -- What private functions answer. Nothing is promised here.
-use mathlib.Core.Bool.{Bool, true, false, not, _&&_, _||_}
+use mathlib.Core.Bool.{Bool, true, false, not, _&&_}
 use mathlib.Core.Path.{_≡_}
 use mathlib.Core.List.{List, [], _∷_, _++_}
 use Prim.Native.Nat.{ℕ, zero, suc, _+_, _*_, _/_, _%_, _<_, _≤_}
@@ -9,20 +9,19 @@ use Rattle.lists.specs.Choice.{choose}
 use Rattle.lists.specs.Lists.{mapFrom, anyBelow}
 use Rattle.lists.specs.Splice.{splice}
 use Rattle.heartbeat.specs.declared.Heartbeat.{Heartbeat}
-use Rattle.server.specs.declared.Role.{Role}
-use Rattle.server.specs.declared.Role.the-variants.{Down, Idle, Sync, Backup, Prospect, Primary}
-use Rattle.server.specs.declared.Event.the-variants.{Nothing}
-use Rattle.server.specs.declared.Period.{Period}
+use Rattle.roles.specs.declared.Role.the-variants.{Down}
+use Rattle.roles.specs.declared.Event.the-variants.{Nothing}
+use Rattle.periods.specs.declared.Period.{Period}
 use Rattle.server.specs.declared.Server.{Server}
 use Rattle.server.specs.declared.Timed.{Timed}
 use Rattle.server.specs.Server.{absent, setSilence, cleared, sentBy, sentAny}
-use Rattle.server.specs.Period.{silenceLimit, prospectLimit, beatLimit}
 use Rattle.server.specs.Timers.{aged, timed}
 use Rattle.lines.specs.Lines.{placeAfter}
 use Rattle.group.specs.declared.State.{State}
 use Rattle.group.specs.Table.{most}
 use Rattle.group.specs.Hearing.{isPlace}
-use Rattle.group.specs.Frame.{heardAll, heardLines, timedLines, advanced, frameLines}
+use Rattle.server.specs.Hearing.{heardAll}
+use Rattle.group.specs.Frame.{heardLines, timedLines, advanced, frameLines}
 use Rattle.frame.specs.declared.Told.{Told}
 use Rattle.places.specs.Words.{rankNumber, sendingNumber}
 use Rattle.places.specs.Roles.{isBackup, isProspect, isStill}
@@ -71,15 +70,6 @@ pub record Turns (hs : List Heartbeat) (t : ℕ) (p : Period) (wet : Bool) (s : 
 pub record JustListens (hs : List Heartbeat) (t : ℕ) (p : Period) (s : Server) : Type 0 where
   pub server : timed t p (heardAll t (cleared s) hs) .server ≡ setSilence t (cleared s)
   pub lines : heardLines t (cleared s) hs ++ timedLines t (s .identity) (timed t p (heardAll t (cleared s) hs)) ≡ []
-
--- some timer of it is due
-abbrev pub ticksIn : Role → ℕ → Period → Server → Bool
-ticksIn Down t p s = false
-ticksIn Idle t p s = false
-ticksIn Sync t p s = false
-ticksIn Backup t p s = aged (s .silence) (silenceLimit p) t
-ticksIn Prospect t p s = aged (s .beat) (beatLimit p) t || aged (s .prospect) (prospectLimit p) t
-ticksIn Primary t p s = aged (s .beat) (beatLimit p) t
 
 -- ---- who does nothing until a verb
 

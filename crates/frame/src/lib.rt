@@ -1,12 +1,15 @@
 // One frame, on servers as numbers: what they hear, their timers, and the lines of it.
+use group::Links;
+use group::Servers;
 use group::Table;
 use heartbeat::Heartbeat;
-use server::Event;
-use server::Period;
-use server::Role;
-use server::Said;
+use periods::Period;
+use places::Packed;
+use roles::Event;
+use roles::Role;
+use roles::Said;
+use roles::Word;
 use server::Server;
-use server::Word;
 ghost use mathlib.Core.Path.{_≡_};
 ghost use mathlib.Core.Bool.{Bool};
 ghost use mathlib.Core.List.{[], _∷_};
@@ -16,13 +19,14 @@ ghost use lib.ListN.{length, replicate, take, getD, set};
 ghost use Rattle.lists.specs.Choice.{choose};
 ghost use Rattle.lists.specs.Lists.{mapFrom};
 ghost use Rattle.server.specs.Server.{absent, setSilence, cleared, passOf, sentBy};
-ghost use Rattle.server.specs.Words.{said};
+ghost use Rattle.roles.specs.Words.{said};
 ghost use Rattle.server.specs.Timers.{aged, timed};
 ghost use Rattle.lines.specs.Lines.{linesOf};
 ghost use Rattle.group.specs.Frame.{timedLines, frameLines};
-ghost use Rattle.places.specs.Words.{serversOf};
-ghost use Rattle.frame.specs.Answers.{stateOf, Plays, Counts};
-ghost use Rattle.frame.specs.Steps.{Out, Hears, Does, staysUnder, heedsOnly, JustListens, onlyListens, senderOf, Ranked, Still, bestIn, Near, inboxBy, Deaf, clearing, Listed, Numbers, Sends, Lists, Turns, ticksIn, Runs, TicksAt, TicksAll, Loud, mostBytes, HeardAlso, Hearers, clamped};
+ghost use Rattle.places.specs.Words.{serversOf, Keeps, packed, roleUnit, sendingEnd};
+ghost use Rattle.frame.specs.Answers.{lastFrame, stateOf, ticksIn, Plays, Counts};
+ghost use Rattle.frame.specs.Steps.{Out, Hears, Does, staysUnder, heedsOnly, JustListens, onlyListens, senderOf, Ranked, Still, bestIn, Near, inboxBy, Deaf, clearing, Listed, Numbers, Sends, Lists, Turns, Runs, TicksAt, TicksAll, Loud, mostBytes, HeardAlso, Hearers, clamped};
+ghost use Rattle.group.specs.Table.{most};
 
 // The lines of an event, written or only counted.
 fn say_event(out: &mut [u8], wet: bool, at: usize, frame: u32, identity: u16, event: Event) -> usize
@@ -47,7 +51,7 @@ struct Told {
 fn hear_one(s: Server, frame: u32, h: Heartbeat, out: &mut [u8], wet: bool, at: usize) -> Told
     ensures { λ r. ⌜ Hears frame wet s (h ∷ []) (now (out .entry)) at r (now (out .exit)) ⌝ }
 {
-    let heard = hearing::hear(s, frame, h);
+    let heard = s.hear(frame, h);
     let next = heard.server;
     let event = heard.event;
     let after = say_event(out, wet, at, frame, s.identity, event);
@@ -170,10 +174,10 @@ fn run_due(s: Server, frame: u32, period: Period, out: &mut [u8], wet: bool, at:
 
 // ---- servers as numbers
 
-fn ranks_of(words: &[u32; 80]) -> [u32; 16]
+fn ranks_of(words: &Packed) -> [u32; Table::SERVERS]
     ensures { λ r. ⌜ Ranked r (serversOf (now (words .entry))) ⌝ }
 {
-    let mut ranks: [u32; 16] = [0; 16];
+    let mut ranks: [u32; Table::SERVERS] = [0; Table::SERVERS];
     let mut i: usize = 0;
     while i < Table::SERVERS {
         let rank = places::rank_number(places::server(words, i));
@@ -186,7 +190,7 @@ fn ranks_of(words: &[u32; 80]) -> [u32; 16]
 // ---- who does nothing until a verb
 
 // From this place on, all are still: they are left out of every loop.
-fn still_from(words: &[u32; 80]) -> usize
+fn still_from(words: &Packed) -> usize
     ensures { λ r. ⌜ Still r (serversOf (now (words .entry))) ⌝ }
 {
     let mut n: usize = Table::SERVERS;
@@ -209,20 +213,20 @@ fn one_if(n: u32) -> usize
 
 // The places of the first n that sent, in rising order: how many they are, and of every place what it sent, as one number.
 fn list_senders(
-    words: &[u32; 80],
-    places: &mut [usize; 16],
-    sendings: &mut [u32; 16],
+    words: &Packed,
+    listed: &mut [usize; Table::SERVERS],
+    sendings: &mut [u32; Table::SERVERS],
     n: usize,
 ) -> usize
-    requires { ⌜ Still n (serversOf (now words)) × ((length (now places) ≡ 16) × (now sendings ≡ replicate 16 0)) ⌝ }
-    ensures { λ r. ⌜ Sends (serversOf (now (words .entry))) (now (places .exit)) (now (sendings .exit)) r ⌝ }
+    requires { ⌜ Still n (serversOf (now words)) × ((length (now listed) ≡ most) × (now sendings ≡ replicate most 0)) ⌝ }
+    ensures { λ r. ⌜ Sends (serversOf (now (words .entry))) (now (listed .exit)) (now (sendings .exit)) r ⌝ }
 {
     let mut count: usize = 0;
     let mut i: usize = 0;
     while i < n {
         let sending = places::sending_number(places::server(words, i));
         sendings[i] = sending;
-        places[count] = i;
+        listed[count] = i;
         count += one_if(sending);
         i += 1;
     }
@@ -231,43 +235,43 @@ fn list_senders(
 
 // A server that sent the same: the rest of it is not looked at.
 fn sender(rank: u32, sending: u32) -> Server
-    requires { ⌜ (rank < 16777216) × (sending < 33554432) ⌝ }
+    requires { ⌜ (rank < roleUnit) × (sending < sendingEnd) ⌝ }
     ensures { λ r. ⌜ r ≡ senderOf rank sending ⌝ }
 {
     Server {
-        identity: (rank % 65536) as u16,
-        priority: (rank / 65536) as u8,
+        identity: (rank % places::PRIORITY) as u16,
+        priority: (rank / places::PRIORITY) as u8,
         role: Role::Down,
         silence: 0,
         beat: 0,
         prospect: 0,
-        beats: (sending / 131072) as u8,
-        reveal: sending / 65536 % 2 == 1,
-        pass: (sending % 65536) as u16,
+        beats: (sending / places::BEATS) as u8,
+        reveal: sending / places::REVEAL % 2 == 1,
+        pass: (sending % places::REVEAL) as u16,
     }
 }
 
-fn one_for(set: bool) -> usize
-    ensures { λ r. ⌜ r ≡ choose set 1 0 ⌝ }
+fn one_for(is: bool) -> usize
+    ensures { λ r. ⌜ r ≡ choose is 1 0 ⌝ }
 {
-    if set { 1 } else { 0 }
+    if is { 1 } else { 0 }
 }
 
 // The places of the first `count` listed that place j hears, in their order: how many they are.
 fn list_heard(
-    places: &[usize; 16],
-    whole: &[bool; 256],
-    near: &mut [usize; 16],
+    listed: &[usize; Table::SERVERS],
+    whole: &Links,
+    near: &mut [usize; Table::SERVERS],
     count: usize,
     j: usize,
 ) -> usize
-    requires { ⌜ (j < 16) × (Listed (now places) count × (length (now near) ≡ 16)) ⌝ }
-    ensures { λ r. ⌜ Near (now (whole .entry)) j (take count (now (places .entry))) (now (near .exit)) r ⌝ }
+    requires { ⌜ (j < most) × (Listed (now listed) count × (length (now near) ≡ most)) ⌝ }
+    ensures { λ r. ⌜ Near (now (whole .entry)) j (take count (now (listed .entry))) (now (near .exit)) r ⌝ }
 {
     let mut m: usize = 0;
     let mut k: usize = 0;
     while k < count {
-        let i = places[k];
+        let i = listed[k];
         near[m] = i;
         m += one_for(places::hears(whole, i, j));
         k += 1;
@@ -276,9 +280,14 @@ fn list_heard(
 }
 
 // The next of the first m places near after the place last, or 16.
-fn next_sender(near: &[usize; 16], ranks: &[u32; 16], m: usize, last: usize) -> usize
+fn next_sender(
+    near: &[usize; Table::SERVERS],
+    ranks: &[u32; Table::SERVERS],
+    m: usize,
+    last: usize,
+) -> usize
     requires { ⌜ Listed (now near) m ⌝ }
-    ensures { λ r. ⌜ r ≡ bestIn (now (ranks .entry)) last 16 (take m (now (near .entry))) ⌝ }
+    ensures { λ r. ⌜ r ≡ bestIn (now (ranks .entry)) last most (take m (now (near .entry))) ⌝ }
 {
     let mut best: usize = Table::SERVERS;
     let mut k: usize = 0;
@@ -303,7 +312,7 @@ fn heeds(s: Server, rank: u32, sending: u32) -> bool
 {
     let role = s.role;
     places::is_backup(role)
-        & ((rank > places::rank_number(s)) & ((sending != 0) & (sending % 65536 == 0)))
+        & ((rank > places::rank_number(s)) & ((sending != 0) & (sending % places::REVEAL == 0)))
 }
 
 fn attend(s: Server, frame: u32) -> Server
@@ -324,7 +333,7 @@ fn hear_from(
     wet: bool,
     at: usize,
 ) -> Told
-    requires { ⌜ (rank < 16777216) × (sending < 33554432) ⌝ }
+    requires { ⌜ (rank < roleUnit) × (sending < sendingEnd) ⌝ }
     ensures { λ r. ⌜ Hears frame wet s (sentBy (senderOf rank sending)) (now (out .entry)) at r (now (out .exit)) ⌝ }
 {
     if heeds(s, rank, sending) {
@@ -338,10 +347,10 @@ fn hear_from(
 
 // What place j hears, from the highest sender to the lowest.
 fn hear_several(
-    places: &[usize; 16],
-    ranks: &[u32; 16],
-    sendings: &[u32; 16],
-    whole: &[bool; 256],
+    listed: &[usize; Table::SERVERS],
+    ranks: &[u32; Table::SERVERS],
+    sendings: &[u32; Table::SERVERS],
+    whole: &Links,
     count: usize,
     frame: u32,
     j: usize,
@@ -350,11 +359,11 @@ fn hear_several(
     wet: bool,
     at: usize,
 ) -> Told
-    requires { ⌜ (j < 16) × Numbers (record { places = now places; ranks = now ranks; sendings = now sendings; count = count }) ⌝ }
-    ensures { λ r. ⌜ Hears frame wet s (inboxBy (record { places = now (places .entry); ranks = now (ranks .entry); sendings = now (sendings .entry); count = count }) (now (whole .entry)) j) (now (out .entry)) at r (now (out .exit)) ⌝ }
+    requires { ⌜ (j < most) × Numbers (record { places = now listed; ranks = now ranks; sendings = now sendings; count = count }) ⌝ }
+    ensures { λ r. ⌜ Hears frame wet s (inboxBy (record { places = now (listed .entry); ranks = now (ranks .entry); sendings = now (sendings .entry); count = count }) (now (whole .entry)) j) (now (out .entry)) at r (now (out .exit)) ⌝ }
 {
-    let mut near: [usize; 16] = [0; 16];
-    let m = list_heard(places, whole, &mut near, count, j);
+    let mut near: [usize; Table::SERVERS] = [0; Table::SERVERS];
+    let m = list_heard(listed, whole, &mut near, count, j);
     let mut now = s;
     let mut r = at;
     let mut last: usize = Table::SERVERS;
@@ -384,7 +393,7 @@ fn aged(since: u32, age: u32, frame: u32) -> bool
 }
 
 // Whether some timer of the server is due.
-fn ticks(s: Server, period: Period, frame: u32) -> bool
+pub fn ticks(s: Server, period: Period, frame: u32) -> bool
     ensures { λ r. ⌜ r ≡ ticksIn (s .role) frame period s ⌝ }
 {
     let role = s.role;
@@ -414,10 +423,10 @@ fn tick(s: Server, frame: u32, period: Period, out: &mut [u8], wet: bool, at: us
 
 // The server of place j in the frame: hearing, then timers.
 fn turn(
-    places: &[usize; 16],
-    ranks: &[u32; 16],
-    sendings: &[u32; 16],
-    whole: &[bool; 256],
+    listed: &[usize; Table::SERVERS],
+    ranks: &[u32; Table::SERVERS],
+    sendings: &[u32; Table::SERVERS],
+    whole: &Links,
     count: usize,
     frame: u32,
     period: Period,
@@ -427,11 +436,11 @@ fn turn(
     wet: bool,
     at: usize,
 ) -> Told
-    requires { ⌜ (j < 16) × Numbers (record { places = now places; ranks = now ranks; sendings = now sendings; count = count }) ⌝ }
-    ensures { λ r. ⌜ Turns (inboxBy (record { places = now (places .entry); ranks = now (ranks .entry); sendings = now (sendings .entry); count = count }) (now (whole .entry)) j) frame period wet s (now (out .entry)) at r (now (out .exit)) ⌝ }
+    requires { ⌜ (j < most) × Numbers (record { places = now listed; ranks = now ranks; sendings = now sendings; count = count }) ⌝ }
+    ensures { λ r. ⌜ Turns (inboxBy (record { places = now (listed .entry); ranks = now (ranks .entry); sendings = now (sendings .entry); count = count }) (now (whole .entry)) j) frame period wet s (now (out .entry)) at r (now (out .exit)) ⌝ }
 {
     let heard = hear_several(
-        places,
+        listed,
         ranks,
         sendings,
         whole,
@@ -448,21 +457,21 @@ fn turn(
 
 // Place j is a backup that hears plain beats of one sender, and no timer of it is due then.
 fn just_listens(
-    places: &[usize; 16],
-    ranks: &[u32; 16],
-    sendings: &[u32; 16],
-    whole: &[bool; 256],
+    listed: &[usize; Table::SERVERS],
+    ranks: &[u32; Table::SERVERS],
+    sendings: &[u32; Table::SERVERS],
+    whole: &Links,
     count: usize,
     frame: u32,
     period: Period,
     j: usize,
     s: Server,
 ) -> bool
-    requires { ⌜ (j < 16) × Numbers (record { places = now places; ranks = now ranks; sendings = now sendings; count = count }) ⌝ }
-    ensures { λ r. ⌜ (r ≡ Bool.true → JustListens (inboxBy (record { places = now (places .entry); ranks = now (ranks .entry); sendings = now (sendings .entry); count = count }) (now (whole .entry)) j) frame period s) ⌝ }
+    requires { ⌜ (j < most) × Numbers (record { places = now listed; ranks = now ranks; sendings = now sendings; count = count }) ⌝ }
+    ensures { λ r. ⌜ (r ≡ Bool.true → JustListens (inboxBy (record { places = now (listed .entry); ranks = now (ranks .entry); sendings = now (sendings .entry); count = count }) (now (whole .entry)) j) frame period s) ⌝ }
 {
     if count == 1 {
-        let i = places[0];
+        let i = listed[0];
         let from = sender(ranks[i], sendings[i]);
         places::hears(whole, i, j)
             & (only_listens(s, from) & !aged(frame, period.silence_limit(), frame))
@@ -472,8 +481,8 @@ fn just_listens(
 }
 
 // Who hears place i, beside those who hear another.
-fn hear_also(heard: [bool; 16], whole: &[bool; 256], i: usize) -> [bool; 16]
-    requires { ⌜ i < 16 ⌝ }
+fn hear_also(heard: [bool; Table::SERVERS], whole: &Links, i: usize) -> [bool; Table::SERVERS]
+    requires { ⌜ i < most ⌝ }
     ensures { λ r. ⌜ HeardAlso heard (now (whole .entry)) i r ⌝ }
 {
     let mut next = heard;
@@ -486,14 +495,14 @@ fn hear_also(heard: [bool; 16], whole: &[bool; 256], i: usize) -> [bool; 16]
 }
 
 // Which places hear somebody.
-fn hearers(places: &[usize; 16], whole: &[bool; 256], count: usize) -> [bool; 16]
-    requires { ⌜ Listed (now places) count ⌝ }
-    ensures { λ r. ⌜ Hearers (now (places .entry)) (now (whole .entry)) count r ⌝ }
+fn hearers(listed: &[usize; Table::SERVERS], whole: &Links, count: usize) -> [bool; Table::SERVERS]
+    requires { ⌜ Listed (now listed) count ⌝ }
+    ensures { λ r. ⌜ Hearers (now (listed .entry)) (now (whole .entry)) count r ⌝ }
 {
-    let mut heard = [false; 16];
+    let mut heard = [false; Table::SERVERS];
     let mut k: usize = 0;
     while k < count {
-        let more = hear_also(heard, whole, places[k]);
+        let more = hear_also(heard, whole, listed[k]);
         heard = more;
         k += 1;
     }
@@ -502,10 +511,10 @@ fn hearers(places: &[usize; 16], whole: &[bool; 256], count: usize) -> [bool; 16
 
 // The turn of a server of place j that hears somebody or has a timer due.
 fn act(
-    places: &[usize; 16],
-    ranks: &[u32; 16],
-    sendings: &[u32; 16],
-    whole: &[bool; 256],
+    listed: &[usize; Table::SERVERS],
+    ranks: &[u32; Table::SERVERS],
+    sendings: &[u32; Table::SERVERS],
+    whole: &Links,
     count: usize,
     frame: u32,
     period: Period,
@@ -515,15 +524,15 @@ fn act(
     wet: bool,
     at: usize,
 ) -> Told
-    requires { ⌜ (j < 16) × Numbers (record { places = now places; ranks = now ranks; sendings = now sendings; count = count }) ⌝ }
-    ensures { λ r. ⌜ Turns (inboxBy (record { places = now (places .entry); ranks = now (ranks .entry); sendings = now (sendings .entry); count = count }) (now (whole .entry)) j) frame period wet s (now (out .entry)) at r (now (out .exit)) ⌝ }
+    requires { ⌜ (j < most) × Numbers (record { places = now listed; ranks = now ranks; sendings = now sendings; count = count }) ⌝ }
+    ensures { λ r. ⌜ Turns (inboxBy (record { places = now (listed .entry); ranks = now (ranks .entry); sendings = now (sendings .entry); count = count }) (now (whole .entry)) j) frame period wet s (now (out .entry)) at r (now (out .exit)) ⌝ }
 {
-    if just_listens(places, ranks, sendings, whole, count, frame, period, j, s) {
+    if just_listens(listed, ranks, sendings, whole, count, frame, period, j, s) {
         let next = attend(s.cleared(), frame);
         Told { server: next, at }
     } else {
         turn(
-            places,
+            listed,
             ranks,
             sendings,
             whole,
@@ -541,11 +550,11 @@ fn act(
 
 // The turn of any server of place j; where nothing happens to it, what it sent is cleared.
 fn turn_of(
-    places: &[usize; 16],
-    ranks: &[u32; 16],
-    sendings: &[u32; 16],
-    whole: &[bool; 256],
-    heard: &[bool; 16],
+    listed: &[usize; Table::SERVERS],
+    ranks: &[u32; Table::SERVERS],
+    sendings: &[u32; Table::SERVERS],
+    whole: &Links,
+    heard: &[bool; Table::SERVERS],
     count: usize,
     frame: u32,
     period: Period,
@@ -555,13 +564,13 @@ fn turn_of(
     wet: bool,
     at: usize,
 ) -> Told
-    requires { ⌜ Hearers (now places) (now whole) count (now heard) × ((j < 16) × Numbers (record { places = now places; ranks = now ranks; sendings = now sendings; count = count })) ⌝ }
-    ensures { λ r. ⌜ Turns (inboxBy (record { places = now (places .entry); ranks = now (ranks .entry); sendings = now (sendings .entry); count = count }) (now (whole .entry)) j) frame period wet s (now (out .entry)) at r (now (out .exit)) ⌝ }
+    requires { ⌜ Hearers (now listed) (now whole) count (now heard) × ((j < most) × Numbers (record { places = now listed; ranks = now ranks; sendings = now sendings; count = count })) ⌝ }
+    ensures { λ r. ⌜ Turns (inboxBy (record { places = now (listed .entry); ranks = now (ranks .entry); sendings = now (sendings .entry); count = count }) (now (whole .entry)) j) frame period wet s (now (out .entry)) at r (now (out .exit)) ⌝ }
 {
     let role = s.role;
     if (heard[j] & places::takes_part(role)) | ticks(s, period, frame) {
         act(
-            places,
+            listed,
             ranks,
             sendings,
             whole,
@@ -582,18 +591,18 @@ fn turn_of(
 
 // The servers after a frame, and the place after what they said.
 struct AfterFrame {
-    servers: [Server; 16],
+    servers: Servers,
     at: usize,
 }
 
 // The heart of the frame: all servers, each after its turn. Those from place n on are still.
 fn turned(
-    servers: [Server; 16],
-    places: &[usize; 16],
-    ranks: &[u32; 16],
-    sendings: &[u32; 16],
-    whole: &[bool; 256],
-    heard: &[bool; 16],
+    servers: Servers,
+    listed: &[usize; Table::SERVERS],
+    ranks: &[u32; Table::SERVERS],
+    sendings: &[u32; Table::SERVERS],
+    whole: &Links,
+    heard: &[bool; Table::SERVERS],
     count: usize,
     period: Period,
     n: usize,
@@ -602,7 +611,7 @@ fn turned(
     wet: bool,
     at: usize,
 ) -> AfterFrame
-    requires { ⌜ (before < 4294967295) × (Still n servers × (Hearers (now places) (now whole) count (now heard) × Lists servers (record { places = now places; ranks = now ranks; sendings = now sendings; count = count }))) ⌝ }
+    requires { ⌜ (before < lastFrame) × (Still n servers × (Hearers (now listed) (now whole) count (now heard) × Lists servers (record { places = now listed; ranks = now ranks; sendings = now sendings; count = count }))) ⌝ }
     ensures { λ r. ⌜ Runs wet (stateOf before period servers (now (whole .entry))) (now (out .entry)) at (record { servers = r .servers; at = r .at }) (now (out .exit)) ⌝ }
 {
     let frame = before + 1;
@@ -612,7 +621,7 @@ fn turned(
     while j < n {
         let s = servers[j];
         let t = turn_of(
-            places,
+            listed,
             ranks,
             sendings,
             whole,
@@ -639,12 +648,12 @@ fn turned(
 
 // The same of servers as numbers.
 fn turn_all(
-    words: &mut [u32; 80],
-    places: &[usize; 16],
-    ranks: &[u32; 16],
-    sendings: &[u32; 16],
-    whole: &[bool; 256],
-    heard: &[bool; 16],
+    words: &mut Packed,
+    listed: &[usize; Table::SERVERS],
+    ranks: &[u32; Table::SERVERS],
+    sendings: &[u32; Table::SERVERS],
+    whole: &Links,
+    heard: &[bool; Table::SERVERS],
     count: usize,
     period: Period,
     n: usize,
@@ -653,13 +662,13 @@ fn turn_all(
     wet: bool,
     at: usize,
 ) -> usize
-    requires { ⌜ (before < 4294967295) × (Still n (serversOf (now words)) × (Hearers (now places) (now whole) count (now heard) × Lists (serversOf (now words)) (record { places = now places; ranks = now ranks; sendings = now sendings; count = count }))) ⌝ }
-    ensures { λ r. ⌜ (length (now (words .exit)) ≡ 80) × Runs wet (stateOf before period (serversOf (now (words .entry))) (now (whole .entry))) (now (out .entry)) at (record { servers = serversOf (now (words .exit)); at = r }) (now (out .exit)) ⌝ }
+    requires { ⌜ (length (now words) ≡ packed) × ((before < lastFrame) × (Still n (serversOf (now words)) × (Hearers (now listed) (now whole) count (now heard) × Lists (serversOf (now words)) (record { places = now listed; ranks = now ranks; sendings = now sendings; count = count })))) ⌝ }
+    ensures { λ r. ⌜ Keeps (now (words .entry)) (now (words .exit)) × Runs wet (stateOf before period (serversOf (now (words .entry))) (now (whole .entry))) (now (out .entry)) at (record { servers = serversOf (now (words .exit)); at = r }) (now (out .exit)) ⌝ }
 {
     let servers = places::servers_of(words);
     let t = turned(
         servers,
-        places,
+        listed,
         ranks,
         sendings,
         whole,
@@ -679,7 +688,7 @@ fn turn_all(
 
 // The timers of the server at place j, if one is due.
 fn tick_at(
-    words: &mut [u32; 80],
+    words: &mut Packed,
     j: usize,
     period: Period,
     frame: u32,
@@ -687,8 +696,8 @@ fn tick_at(
     wet: bool,
     at: usize,
 ) -> usize
-    requires { ⌜ (length (now words) ≡ 80) × (j < 16) ⌝ }
-    ensures { λ r. ⌜ (length (now (words .exit)) ≡ 80) × TicksAt wet frame period (serversOf (now (words .entry))) j (now (out .entry)) at (record { servers = serversOf (now (words .exit)); at = r }) (now (out .exit)) ⌝ }
+    requires { ⌜ (length (now words) ≡ packed) × (j < most) ⌝ }
+    ensures { λ r. ⌜ Keeps (now (words .entry)) (now (words .exit)) × TicksAt wet frame period (serversOf (now (words .entry))) j (now (out .entry)) at (record { servers = serversOf (now (words .exit)); at = r }) (now (out .exit)) ⌝ }
 {
     let s = places::server(words, j);
     if ticks(s, period, frame) {
@@ -702,7 +711,7 @@ fn tick_at(
 
 // The first n servers in a frame in which nothing is heard.
 fn tick_all(
-    words: &mut [u32; 80],
+    words: &mut Packed,
     period: Period,
     n: usize,
     before: u32,
@@ -710,8 +719,8 @@ fn tick_all(
     wet: bool,
     at: usize,
 ) -> usize
-    requires { ⌜ (length (now words) ≡ 80) × ((before < 4294967295) × Still n (serversOf (now words))) ⌝ }
-    ensures { λ r. ⌜ (length (now (words .exit)) ≡ 80) × TicksAll wet (before + 1) period (serversOf (now (words .entry))) (now (out .entry)) at (record { servers = serversOf (now (words .exit)); at = r }) (now (out .exit)) ⌝ }
+    requires { ⌜ (length (now words) ≡ packed) × ((before < lastFrame) × Still n (serversOf (now words))) ⌝ }
+    ensures { λ r. ⌜ Keeps (now (words .entry)) (now (words .exit)) × TicksAll wet (before + 1) period (serversOf (now (words .entry))) (now (out .entry)) at (record { servers = serversOf (now (words .exit)); at = r }) (now (out .exit)) ⌝ }
 {
     let frame = before + 1;
     let mut r = at;
@@ -724,8 +733,8 @@ fn tick_all(
 }
 
 // Whether nobody hears anybody.
-fn nobody_hears(heard: &[bool; 16]) -> bool
-    ensures { λ r. ⌜ (r ≡ Bool.true → Deaf (now (heard .entry)) 16) ⌝ }
+fn nobody_hears(heard: &[bool; Table::SERVERS]) -> bool
+    ensures { λ r. ⌜ (r ≡ Bool.true → Deaf (now (heard .entry)) most) ⌝ }
 {
     let mut j: usize = 0;
     while j < Table::SERVERS {
@@ -738,17 +747,17 @@ fn nobody_hears(heard: &[bool; 16]) -> bool
 }
 
 // Nothing sent at place j.
-fn clear_at(words: &mut [u32; 80], j: usize)
-    requires { ⌜ (length (now words) ≡ 80) × (j < 16) ⌝ }
-    ensures { λ _. ⌜ (length (now (words .exit)) ≡ 80) × (serversOf (now (words .exit)) ≡ set (serversOf (now (words .entry))) j (cleared (getD (serversOf (now (words .entry))) j absent))) ⌝ }
+fn clear_at(words: &mut Packed, j: usize)
+    requires { ⌜ (length (now words) ≡ packed) × (j < most) ⌝ }
+    ensures { λ _. ⌜ Keeps (now (words .entry)) (now (words .exit)) × (serversOf (now (words .exit)) ≡ set (serversOf (now (words .entry))) j (cleared (getD (serversOf (now (words .entry))) j absent))) ⌝ }
 {
-    words[5 * j + 4] = 0;
+    words[places::EACH * j + places::SENDING] = 0;
 }
 
 // Nothing sent at any place; those from n on sent nothing.
-fn clear_all(words: &mut [u32; 80], n: usize)
-    requires { ⌜ (length (now words) ≡ 80) × Still n (serversOf (now words)) ⌝ }
-    ensures { λ _. ⌜ (length (now (words .exit)) ≡ 80) × (serversOf (now (words .exit)) ≡ mapFrom 0 clearing (serversOf (now (words .entry)))) ⌝ }
+fn clear_all(words: &mut Packed, n: usize)
+    requires { ⌜ (length (now words) ≡ packed) × Still n (serversOf (now words)) ⌝ }
+    ensures { λ _. ⌜ Keeps (now (words .entry)) (now (words .exit)) × (serversOf (now (words .exit)) ≡ mapFrom 0 clearing (serversOf (now (words .entry)))) ⌝ }
 {
     let mut j: usize = 0;
     while j < n {
@@ -759,7 +768,7 @@ fn clear_all(words: &mut [u32; 80], n: usize)
 
 // The first n servers in a frame in which nobody hears what was sent.
 fn unheard_frame(
-    words: &mut [u32; 80],
+    words: &mut Packed,
     period: Period,
     n: usize,
     before: u32,
@@ -767,8 +776,8 @@ fn unheard_frame(
     wet: bool,
     at: usize,
 ) -> usize
-    requires { ⌜ (length (now words) ≡ 80) × ((before < 4294967295) × Still n (serversOf (now words))) ⌝ }
-    ensures { λ r. ⌜ (length (now (words .exit)) ≡ 80) × TicksAll wet (before + 1) period (mapFrom 0 clearing (serversOf (now (words .entry)))) (now (out .entry)) at (record { servers = serversOf (now (words .exit)); at = r }) (now (out .exit)) ⌝ }
+    requires { ⌜ (length (now words) ≡ packed) × ((before < lastFrame) × Still n (serversOf (now words))) ⌝ }
+    ensures { λ r. ⌜ Keeps (now (words .entry)) (now (words .exit)) × TicksAll wet (before + 1) period (mapFrom 0 clearing (serversOf (now (words .entry)))) (now (out .entry)) at (record { servers = serversOf (now (words .exit)); at = r }) (now (out .exit)) ⌝ }
 {
     clear_all(words, n);
     tick_all(words, period, n, before, out, wet, at)
@@ -781,7 +790,7 @@ fn greater(a: u32, b: u32) -> u32
 }
 
 // No server sent a greater number; so nobody sent where it is 0.
-fn loudest(words: &[u32; 80], n: usize) -> u32
+fn loudest(words: &Packed, n: usize) -> u32
     requires { ⌜ Still n (serversOf (now words)) ⌝ }
     ensures { λ r. ⌜ Loud (serversOf (now (words .entry))) r ⌝ }
 {
@@ -797,8 +806,8 @@ fn loudest(words: &[u32; 80], n: usize) -> u32
 
 // One frame after one in which somebody sent.
 fn heard_frame(
-    words: &mut [u32; 80],
-    whole: &[bool; 256],
+    words: &mut Packed,
+    whole: &Links,
     period: Period,
     n: usize,
     before: u32,
@@ -806,20 +815,20 @@ fn heard_frame(
     wet: bool,
     at: usize,
 ) -> usize
-    requires { ⌜ (length (now words) ≡ 80) × ((before < 4294967295) × Still n (serversOf (now words))) ⌝ }
-    ensures { λ r. ⌜ (length (now (words .exit)) ≡ 80) × Runs wet (stateOf before period (serversOf (now (words .entry))) (now (whole .entry))) (now (out .entry)) at (record { servers = serversOf (now (words .exit)); at = r }) (now (out .exit)) ⌝ }
+    requires { ⌜ (length (now words) ≡ packed) × ((before < lastFrame) × Still n (serversOf (now words))) ⌝ }
+    ensures { λ r. ⌜ Keeps (now (words .entry)) (now (words .exit)) × Runs wet (stateOf before period (serversOf (now (words .entry))) (now (whole .entry))) (now (out .entry)) at (record { servers = serversOf (now (words .exit)); at = r }) (now (out .exit)) ⌝ }
 {
-    let mut places: [usize; 16] = [0; 16];
-    let mut sendings: [u32; 16] = [0; 16];
-    let count = list_senders(words, &mut places, &mut sendings, n);
+    let mut listed: [usize; Table::SERVERS] = [0; Table::SERVERS];
+    let mut sendings: [u32; Table::SERVERS] = [0; Table::SERVERS];
+    let count = list_senders(words, &mut listed, &mut sendings, n);
     let ranks = ranks_of(words);
-    let heard = hearers(&places, whole, count);
+    let heard = hearers(&listed, whole, count);
     if nobody_hears(&heard) {
         return unheard_frame(words, period, n, before, out, wet, at);
     }
     turn_all(
         words,
-        &places,
+        &listed,
         &ranks,
         &sendings,
         whole,
@@ -836,8 +845,8 @@ fn heard_frame(
 
 // One frame.
 fn play_frame(
-    words: &mut [u32; 80],
-    whole: &[bool; 256],
+    words: &mut Packed,
+    whole: &Links,
     period: Period,
     n: usize,
     loud: u32,
@@ -846,8 +855,8 @@ fn play_frame(
     wet: bool,
     at: usize,
 ) -> usize
-    requires { ⌜ (length (now words) ≡ 80) × ((before < 4294967295) × (Still n (serversOf (now words)) × Loud (serversOf (now words)) loud)) ⌝ }
-    ensures { λ r. ⌜ (length (now (words .exit)) ≡ 80) × Runs wet (stateOf before period (serversOf (now (words .entry))) (now (whole .entry))) (now (out .entry)) at (record { servers = serversOf (now (words .exit)); at = r }) (now (out .exit)) ⌝ }
+    requires { ⌜ (length (now words) ≡ packed) × ((before < lastFrame) × (Still n (serversOf (now words)) × Loud (serversOf (now words)) loud)) ⌝ }
+    ensures { λ r. ⌜ Keeps (now (words .entry)) (now (words .exit)) × Runs wet (stateOf before period (serversOf (now (words .entry))) (now (whole .entry))) (now (out .entry)) at (record { servers = serversOf (now (words .exit)); at = r }) (now (out .exit)) ⌝ }
 {
     if loud == 0 {
         tick_all(words, period, n, before, out, wet, at)
@@ -862,14 +871,14 @@ fn play_frame(
 fn most_bytes(loud: u32) -> usize
     ensures { λ r. ⌜ r ≡ mostBytes loud ⌝ }
 {
-    let beats = (loud / 131072) as usize;
-    16 * (54 * (16 * (beats + 2)) + 162)
+    let beats = (loud / places::BEATS) as usize;
+    Table::SERVERS * (54 * (Table::SERVERS * (beats + 2)) + 162)
 }
 
 // The place after the next frame's lines, which are not written.
 fn count_frame(
-    words: &[u32; 80],
-    whole: &[bool; 256],
+    words: &Packed,
+    whole: &Links,
     period: Period,
     n: usize,
     loud: u32,
@@ -877,7 +886,7 @@ fn count_frame(
     out: &mut [u8],
     at: usize,
 ) -> usize
-    requires { ⌜ (length (now words) ≡ 80) × ((before < 4294967295) × (Still n (serversOf (now words)) × Loud (serversOf (now words)) loud)) ⌝ }
+    requires { ⌜ (length (now words) ≡ packed) × ((before < lastFrame) × (Still n (serversOf (now words)) × Loud (serversOf (now words)) loud)) ⌝ }
     ensures { λ r. ⌜ Out Bool.false (now (out .entry)) at (frameLines (stateOf before period (serversOf (now (words .entry))) (now (whole .entry)))) r (now (out .exit)) ⌝ }
 {
     let mut copy = *words;
@@ -886,8 +895,8 @@ fn count_frame(
 
 // Whether the next frame's lines fit. They are counted only where that is not clear.
 fn frame_fits(
-    words: &[u32; 80],
-    whole: &[bool; 256],
+    words: &Packed,
+    whole: &Links,
     period: Period,
     n: usize,
     loud: u32,
@@ -895,7 +904,7 @@ fn frame_fits(
     out: &mut [u8],
     at: usize,
 ) -> bool
-    requires { ⌜ (length (now words) ≡ 80) × ((at ≤ length (now out)) × ((before < 4294967295) × (Still n (serversOf (now words)) × Loud (serversOf (now words)) loud))) ⌝ }
+    requires { ⌜ (length (now words) ≡ packed) × ((at ≤ length (now out)) × ((before < lastFrame) × (Still n (serversOf (now words)) × Loud (serversOf (now words)) loud))) ⌝ }
     ensures { λ r. ⌜ (r ≡ leb (at + length (frameLines (stateOf before period (serversOf (now (words .entry))) (now (whole .entry))))) (length (now (out .entry)))) × (now (out .exit) ≡ now (out .entry)) ⌝ }
 {
     if most_bytes(loud) <= out.len() - at {
@@ -913,8 +922,8 @@ pub struct Fared {
 
 // The next frame, if it fits.
 fn play_fitting(
-    words: &mut [u32; 80],
-    whole: &[bool; 256],
+    words: &mut Packed,
+    whole: &Links,
     period: Period,
     n: usize,
     loud: u32,
@@ -922,8 +931,8 @@ fn play_fitting(
     out: &mut [u8],
     at: usize,
 ) -> Fared
-    requires { ⌜ (length (now words) ≡ 80) × ((at ≤ length (now out)) × ((frame < 4294967295) × (Still n (serversOf (now words)) × Loud (serversOf (now words)) loud))) ⌝ }
-    ensures { λ r. ⌜ (length (now (words .exit)) ≡ 80) × Plays (stateOf frame period (serversOf (now (words .entry))) (now (whole .entry))) (now (out .entry)) at (serversOf (now (words .exit))) r (now (out .exit)) ⌝ }
+    requires { ⌜ (length (now words) ≡ packed) × ((at ≤ length (now out)) × ((frame < lastFrame) × (Still n (serversOf (now words)) × Loud (serversOf (now words)) loud))) ⌝ }
+    ensures { λ r. ⌜ Plays (stateOf frame period (serversOf (now (words .entry))) (now (whole .entry))) (now (words .entry)) (now (out .entry)) at r (now (words .exit)) (now (out .exit)) ⌝ }
 {
     if frame_fits(words, whole, period, n, loud, frame, out, at) {
         let after = play_frame(words, whole, period, n, loud, frame, out, true, at);
@@ -938,18 +947,18 @@ fn play_fitting(
 
 // The same; `held` is what the numbers are: passed by value, it has their length.
 fn play_held(
-    words: &mut [u32; 80],
-    held: [u32; 80],
-    whole: &[bool; 256],
+    words: &mut Packed,
+    held: Packed,
+    whole: &Links,
     period: Period,
     frame: u32,
     out: &mut [u8],
     at: usize,
 ) -> Fared
     requires { ⌜ now words ≡ held ⌝ }
-    ensures { λ r. ⌜ (length (now (words .exit)) ≡ length (now (words .entry))) × Plays (stateOf frame period (serversOf (now (words .entry))) (now (whole .entry))) (now (out .entry)) at (serversOf (now (words .exit))) r (now (out .exit)) ⌝ }
+    ensures { λ r. ⌜ Plays (stateOf frame period (serversOf (now (words .entry))) (now (whole .entry))) (now (words .entry)) (now (out .entry)) at r (now (words .exit)) (now (out .exit)) ⌝ }
 {
-    if frame >= 4294967295 {
+    if frame >= u32::MAX {
         return Fared { at, full: true };
     }
     if at > out.len() {
@@ -962,14 +971,14 @@ fn play_held(
 
 // The next frame in place, if there is one and its lines fit from the place `at` on; otherwise nothing.
 pub fn play(
-    words: &mut [u32; 80],
-    whole: &[bool; 256],
+    words: &mut Packed,
+    whole: &Links,
     period: Period,
     frame: u32,
     out: &mut [u8],
     at: usize,
 ) -> Fared
-    ensures { λ r. ⌜ (length (now (words .exit)) ≡ length (now (words .entry))) × Plays (stateOf frame period (serversOf (now (words .entry))) (now (whole .entry))) (now (out .entry)) at (serversOf (now (words .exit))) r (now (out .exit)) ⌝ }
+    ensures { λ r. ⌜ Plays (stateOf frame period (serversOf (now (words .entry))) (now (whole .entry))) (now (words .entry)) (now (out .entry)) at r (now (words .exit)) (now (out .exit)) ⌝ }
 {
     let held = *words;
     play_held(words, held, whole, period, frame, out, at)
@@ -983,18 +992,18 @@ fn clamp(room: usize, at: usize) -> usize
 }
 
 fn count_held(
-    words: &mut [u32; 80],
-    held: [u32; 80],
-    whole: &[bool; 256],
+    words: &mut Packed,
+    held: Packed,
+    whole: &Links,
     period: Period,
     frame: u32,
     out: &mut [u8],
     at: usize,
 ) -> usize
     requires { ⌜ now words ≡ held ⌝ }
-    ensures { λ r. ⌜ (length (now (words .exit)) ≡ length (now (words .entry))) × Counts (stateOf frame period (serversOf (now (words .entry))) (now (whole .entry))) (now (out .entry)) at (serversOf (now (words .exit))) r (now (out .exit)) ⌝ }
+    ensures { λ r. ⌜ Counts (stateOf frame period (serversOf (now (words .entry))) (now (whole .entry))) (now (words .entry)) (now (out .entry)) at r (now (words .exit)) (now (out .exit)) ⌝ }
 {
-    if frame >= 4294967295 {
+    if frame >= u32::MAX {
         return at;
     }
     let n = still_from(words);
@@ -1005,14 +1014,14 @@ fn count_held(
 
 // The next frame in place, its lines only counted: the servers move on, no byte is changed. The place after the lines, or one past the slice's end where they do not fit; where there is no next frame, nothing.
 pub fn count(
-    words: &mut [u32; 80],
-    whole: &[bool; 256],
+    words: &mut Packed,
+    whole: &Links,
     period: Period,
     frame: u32,
     out: &mut [u8],
     at: usize,
 ) -> usize
-    ensures { λ r. ⌜ (length (now (words .exit)) ≡ length (now (words .entry))) × Counts (stateOf frame period (serversOf (now (words .entry))) (now (whole .entry))) (now (out .entry)) at (serversOf (now (words .exit))) r (now (out .exit)) ⌝ }
+    ensures { λ r. ⌜ Counts (stateOf frame period (serversOf (now (words .entry))) (now (whole .entry))) (now (words .entry)) (now (out .entry)) at r (now (words .exit)) (now (out .exit)) ⌝ }
 {
     let held = *words;
     count_held(words, held, whole, period, frame, out, at)

@@ -12,15 +12,15 @@ use Rattle.lists.specs.Lists.{mapFrom}
 use Rattle.lists.specs.Splice.{splice}
 use Rattle.lists.proofs.Splicing.{splice-none}
 use Rattle.lists.proofs.Cases.{less, on, tested, clash, and-true, fst-true, snd-true, or-true}
-use Rattle.server.specs.declared.Role.{Role}
-use Rattle.server.specs.declared.Role.the-variants.{Down, Idle, Sync, Backup, Prospect, Primary}
-use Rattle.server.specs.declared.Said.the-variants.{One}
-use Rattle.server.specs.declared.Word.the-variants.{Beat}
-use Rattle.server.specs.declared.Period.{Period}
+use Rattle.roles.specs.declared.Role.{Role}
+use Rattle.roles.specs.declared.Role.the-variants.{Down, Idle, Sync, Backup, Prospect, Primary}
+use Rattle.roles.specs.declared.Said.the-variants.{One}
+use Rattle.roles.specs.declared.Word.the-variants.{Beat}
+use Rattle.periods.specs.declared.Period.{Period}
 use Rattle.server.specs.declared.Server.{Server}
-use Rattle.server.specs.Period.{beatLimit}
+use Rattle.periods.specs.Period.{beatLimit}
 use Rattle.server.specs.Server.{absent}
-use Rattle.server.specs.Words.{wordBytes}
+use Rattle.roles.specs.Words.{wordBytes}
 use Rattle.lines.specs.Lines.{linesOf, Says}
 use Rattle.lines.proofs.Pieces.{line-long}
 use Rattle.group.specs.Hearing.{linkOf}
@@ -142,6 +142,17 @@ beats-last {f} {p} {target} {i} {d} {at} {r} {d′} v h = by (v .count) refl
         let before = v .before n e in
         let more : suc n * p ≡ n * p + p = omega arith in
         (omega arith, omega arith)
+
+-- and that is not before the first
+pub beats-first : {f p target i : ℕ} {d : List ℕ} {at : ℕ} {r : Pulse} {d′ : List ℕ} → Beats f p target i d at r d′ → f < r .next → f ≤ r .next - p
+beats-first {f} {p} {target} {i} {d} {at} {r} {d′} v h = by (v .count) refl
+  where
+    by : (n : ℕ) → v .count ≡ n → f ≤ r .next - p
+    by zero e = absurd (let z : r .next ≡ f = v .next ∙ ap (λ (k : ℕ). f + k * p) e ∙ (let y : f + 0 * p ≡ f = omega arith in y) in omega arith)
+    by (suc n) e =
+        let z : r .next ≡ f + suc n * p = v .next ∙ ap (λ (k : ℕ). f + k * p) e in
+        let more : suc n * p ≡ n * p + p = omega arith in
+        omega arith
 
 -- no beat: nothing was written
 pub beats-none : {f p target i : ℕ} {d : List ℕ} {at : ℕ} {r : Pulse} {d′ : List ℕ} → Beats f p target i d at r d′ → 0 < p → r .next ≤ f → d′ ≡ d

@@ -11,11 +11,11 @@ use lib.Dec.{ltb, leb, eqb}
 use lib.ListN.{length, length-append}
 use Rattle.lists.specs.Choice.{choose}
 use Rattle.lists.specs.Splice.{splice}
-use Rattle.lists.proofs.Cases.{less, equal, on, tested, chosen, other, clash, and-true, and-right, fst-true, snd-true, and-left}
+use Rattle.lists.proofs.Cases.{less, equal, on, tested, chosen, other, clash, and-true, and-right, fst-true, snd-true, and-left, not-so, not-some}
 use Rattle.lists.proofs.Splicing.{splice-none}
 use Rattle.refusal.specs.declared.Refusal.the-variants.{Short}
 use Rattle.refusal.specs.declared.Verdict.the-variants.{Accepted, Refused}
-use Rattle.server.specs.declared.Period.{Period}
+use Rattle.periods.specs.declared.Period.{Period}
 use Rattle.server.specs.declared.Server.{Server}
 use Rattle.group.specs.declared.State.{State}
 use Rattle.group.specs.Frame.{advanced, frameLines, movedTo}
@@ -29,7 +29,6 @@ use Rattle.frame.specs.declared.Fared.{Fared}
 use Rattle.frame.specs.Answers.{stateOf, frameFits, Plays}
 use Rattle.frame.specs.Steps.{Out}
 use Rattle.frames.specs.Steps.{Stepped, Jumps, Fares, Stretches, MovesWithin}
-use Rattle.places.proofs.Words.{not-so, not-some}
 use Rattle.frame.proofs.Writing.{after-fits, start, chain, out-as}
 use Rattle.group.proofs.Adding.{advanced-add, lines-add}
 use Rattle.frames.proofs.Playing.{one-step, no-step, jumped}
@@ -64,7 +63,7 @@ fit-add (suc k) m c room h =
 
 -- ---- one frame, if it fits
 
-module _ (c : State) {d : List ℕ} {at : ℕ} {l : List Server} {r : Fared} {d′ : List ℕ} (next : c .frame < 4294967295) (v : Plays c d at l r d′) where
+module _ (c : State) {w d : List ℕ} {at : ℕ} {r : Fared} {w′ d′ : List ℕ} (next : c .frame < 4294967295) (v : Plays c w d at r w′ d′) where
   -- whether it fits is a matter of its lines
   fits-is : frameFits c d at ≡ leb (at + length (frameLines c)) (length d)
   fits-is = ap (λ (b : Bool). b && leb (at + length (frameLines c)) (length d)) (lt-ltb (c .frame) 4294967295 next)
@@ -72,7 +71,7 @@ module _ (c : State) {d : List ℕ} {at : ℕ} {l : List Server} {r : Fared} {d�
   full-is : r .full ≡ not (leb (at + length (frameLines c)) (length d))
   full-is = v .full ∙ ap not fits-is
 
-  pub fares-one : r .full ≡ false → Fares c d at l (record { frame = c .frame + 1; at = r .at; full = false }) d′
+  pub fares-one : r .full ≡ false → Fares c d at (serversOf w′) (record { frame = c .frame + 1; at = r .at; full = false }) d′
   fares-one f =
       let fit : frameFits c d at ≡ true = not-some _ (sym (v .full) ∙ f) in
       let room : at + length (frameLines c) ≤ length d = leb-true _ _ (sym fits-is ∙ fit) in
@@ -82,14 +81,14 @@ module _ (c : State) {d : List ℕ} {at : ℕ} {l : List Server} {r : Fared} {d�
         is = λ t h. v .slice ∙ chosen d fit;
         dry = λ t. absurd (clash refl t);
       } in
-      record { full = sym f ∙ full-is; steps = let one : _≡_ {A = ℕ} (choose false 0 1) 1 = other 0 refl in rw one (one-step c (v .servers ∙ chosen _ fit) o) }
+      record { full = sym f ∙ full-is; steps = let one : _≡_ {A = ℕ} (choose false 0 1) 1 = other 0 refl in rw one (one-step c (v .words .servers ∙ chosen _ fit) o) }
 
-  pub fares-not : r .full ≡ true → Fares c d at l (record { frame = c .frame; at = at; full = true }) d′
+  pub fares-not : r .full ≡ true → Fares c d at (serversOf w′) (record { frame = c .frame; at = at; full = true }) d′
   fares-not f =
       let fit : frameFits c d at ≡ false = not-so _ (sym (v .full) ∙ f) in
       let none : _≡_ {A = ℕ} (choose true 0 1) 0 = chosen 1 refl in
       let same : d′ ≡ d = v .slice ∙ other _ fit in
-      let stay : l ≡ c .servers = v .servers ∙ other _ fit in
+      let stay : serversOf w′ ≡ c .servers = v .words .servers ∙ other _ fit in
       record { full = sym f ∙ full-is; steps = rw none (rw same (rw stay (no-step c))) }
 
 -- ---- a jump, then one frame if it fits
@@ -278,6 +277,10 @@ all-within c target {d} {r} {d′} v h =
 
 -- ---- the answer
 
+-- not one frame is made, of those that there are
+pub no-frame : (t target u : ℕ) → (ltb t target && eqb u t) ≡ true → u ≡ t
+no-frame t target u e = eqb-true u t (snd-true (ltb t target) _ e)
+
 module _ (c : State) (target : ℕ) {d : List ℕ} {r : Stepped} {d′ : List ℕ} (v : MovesWithin c target d r d′) where
   abbrev frames : ℕ
   frames = framesWithin c target (length d)
@@ -289,7 +292,7 @@ module _ (c : State) (target : ℕ) {d : List ℕ} {r : Stepped} {d′ : List �
   pub within-short : (ltb (c .frame) target && eqb (r .frame) (c .frame)) ≡ true → Gives c (withinGoes c target (length d)) d (Refused Short) 0 (movedTo c (c .frame) (r .servers)) d′
   unfolding linesBy advancedBy
   within-short e =
-      let same = eqb-true (r .frame) (c .frame) (snd-true (ltb (c .frame) target) _ e) in
+      let same = no-frame (c .frame) target (r .frame) e in
       let none : frames ≡ 0 = omega (arith, frame-within, same) in
       let kept : d′ ≡ d = v .out .is refl (omega (arith, v .fits)) ∙ ap (λ (k : ℕ). splice d 0 (linesBy k c)) none ∙ splice-none d 0 in
       let stays : movedTo c (c .frame) (r .servers) ≡ c = ap (λ (t : ℕ). movedTo c t (r .servers)) (sym same) ∙ v .channel ∙ ap (λ (k : ℕ). advancedBy k c) none in

@@ -10,11 +10,12 @@ use lib.Dec.{ltb}
 use lib.ListN.{length}
 use Rattle.lists.specs.Choice.{choose}
 use Rattle.lists.proofs.Cases.{less, chosen, other, clash}
-use Rattle.server.specs.declared.Period.{Period}
+use Rattle.periods.specs.declared.Period.{Period}
 use Rattle.server.specs.declared.Server.{Server}
 use Rattle.group.specs.declared.State.{State}
 use Rattle.group.specs.Frame.{advanced, frameLines, movedTo}
 use Rattle.group.specs.Advance.{advancedBy, linesBy}
+use Rattle.places.specs.Words.{serversOf}
 use Rattle.frame.specs.Answers.{stateOf, Counts}
 use Rattle.frame.specs.Steps.{Out, anySent, AllRest}
 use Rattle.frames.specs.Steps.{Stepped, Before, Steps, Jumps, Goes}
@@ -38,13 +39,13 @@ no-step c = record { channel = refl; out = start }
 
 -- the next frame, which is before the target, counted
 pub next-counted :
-    (c : State) (target : ℕ) {d : List ℕ} {at : ℕ} {l : List Server} {n : ℕ} {d′ : List ℕ} → c .frame < target → c .frame < 4294967295 → Counts c d at l n d′ →
-    Steps false (choose (ltb (c .frame) target) 1 0) c d at (record { servers = l; frame = c .frame + 1; at = n }) d′
-next-counted c target {d} {at} {l} {n} {d′} h g v =
+    (c : State) (target : ℕ) {w d : List ℕ} {at n : ℕ} {w′ d′ : List ℕ} → c .frame < target → c .frame < 4294967295 → Counts c w d at n w′ d′ →
+    Steps false (choose (ltb (c .frame) target) 1 0) c d at (record { servers = serversOf w′; frame = c .frame + 1; at = n }) d′
+next-counted c target {w} {d} {at} {n} {w′} {d′} h g v =
     let has = lt-ltb (c .frame) 4294967295 g in
     let o : Out false d at (frameLines c) n d′ = record { end = λ k. v .place ∙ chosen at has; is = λ t k. absurd (clash t refl); dry = λ t. v .slice } in
-    subst (λ (k : ℕ). Steps false k c d at (record { servers = l; frame = c .frame + 1; at = n }) d′) (sym (chosen 0 (lt-ltb (c .frame) target h)))
-    (one-step c (v .servers ∙ chosen (c .servers) has) o)
+    subst (λ (k : ℕ). Steps false k c d at (record { servers = serversOf w′; frame = c .frame + 1; at = n }) d′) (sym (chosen 0 (lt-ltb (c .frame) target h)))
+    (one-step c (v .words .servers ∙ chosen (c .servers) has) o)
 
 -- none where the target is reached
 module _ (c : State) (target : ℕ) {wet : Bool} {d : List ℕ} {at : ℕ} where

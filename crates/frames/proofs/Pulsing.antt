@@ -14,26 +14,27 @@ use Rattle.lists.specs.Lists.{mapFrom, anyBelow}
 use Rattle.lists.proofs.Cases.{less, equal, on, chosen, other, and-true, and-left, and-right}
 use Rattle.heartbeat.specs.declared.Heartbeat.{Heartbeat}
 use Rattle.heartbeat.proofs.Order.{irreflexive}
-use Rattle.server.specs.declared.Role.{Role}
-use Rattle.server.specs.declared.Role.the-variants.{Down, Idle, Sync, Backup, Prospect, Primary}
-use Rattle.server.specs.declared.Event.the-variants as event
-use Rattle.server.specs.declared.Said.the-variants.{One}
-use Rattle.server.specs.declared.Word.the-variants.{Beat}
-use Rattle.server.specs.declared.Period.{Period}
+use Rattle.roles.specs.declared.Role.{Role}
+use Rattle.roles.specs.declared.Role.the-variants.{Down, Idle, Sync, Backup, Prospect, Primary}
+use Rattle.roles.specs.declared.Event.the-variants as event
+use Rattle.roles.specs.declared.Said.the-variants.{One}
+use Rattle.roles.specs.declared.Word.the-variants.{Beat}
+use Rattle.periods.specs.declared.Period.{Period}
 use Rattle.server.specs.declared.Server.{Server}
 use Rattle.server.specs.declared.Timed.{Timed}
 use Rattle.server.specs.Server.{absent, rankOf, setSilence, setBeat, oneMore, sendBeat, cleared, sentBy, sentAny}
-use Rattle.server.specs.Period.{silenceLimit, beatLimit}
+use Rattle.periods.specs.Period.{silenceLimit, beatLimit}
 use Rattle.server.specs.Timers.{aged, timed}
 use Rattle.lines.specs.Lines.{linesOf}
 use Rattle.group.specs.declared.State.{State}
 use Rattle.group.specs.Hearing.{place, linkOf, hearsFrom, comes, nextSender, sendersAfter, sentByAll, inbox}
-use Rattle.group.specs.Frame.{heardAll, heardLines, timedLines, hearing, turned, turnLines, turnsLines, advanced, frameLines}
+use Rattle.server.specs.Hearing.{heardAll}
+use Rattle.group.specs.Frame.{heardLines, timedLines, hearing, turned, turnLines, turnsLines, advanced, frameLines}
 use Rattle.group.specs.Advance.{advancedBy, linesBy}
 use Rattle.group.proofs.Places.{map-at, length-from, place-advanced, long-advanced}
 use Rattle.places.specs.Roles.{isBackup, isPrimary, stillIn, isStill}
-use Rattle.frame.specs.Answers.{stateOf}
-use Rattle.frame.specs.Steps.{sentBelow, onlyListens, anySent, ticksIn, ticked, tickLines, resting, AllRest}
+use Rattle.frame.specs.Answers.{stateOf, ticksIn}
+use Rattle.frame.specs.Steps.{sentBelow, onlyListens, anySent, ticked, tickLines, resting, AllRest}
 use Rattle.frames.specs.Steps.{pulsed, Listens, Calm, beatLines}
 use Rattle.frame.proofs.Quiet.{due-from, no-timer, rests-backup, rests-primary, primary-beats, clear-already, ticks-frame, skip}
 use Rattle.frame.proofs.Hearings.{just-listens}

@@ -7,19 +7,20 @@ use Prim.Native.Nat.{ℕ, zero, suc, _+_, _-_, _*_, _<_, _≤_}
 use lib.Dec.{leb, eqb}
 use lib.ListN.{length, getD}
 use Rattle.lists.specs.Choice.{choose}
-use Rattle.server.specs.declared.Role.the-variants.{Backup, Primary}
-use Rattle.server.specs.declared.Period.{Period}
+use Rattle.roles.specs.declared.Role.the-variants.{Backup, Primary}
+use Rattle.periods.specs.declared.Period.{Period}
 use Rattle.server.specs.declared.Server.{Server}
-use Rattle.server.specs.declared.Said.the-variants.{One}
-use Rattle.server.specs.declared.Word.the-variants.{Beat}
+use Rattle.roles.specs.declared.Said.the-variants.{One}
+use Rattle.roles.specs.declared.Word.the-variants.{Beat}
 use Rattle.server.specs.Server.{absent, setSilence, setBeat, sentAny}
-use Rattle.server.specs.Period.{silenceLimit, beatLimit}
+use Rattle.periods.specs.Period.{silenceLimit, beatLimit}
 use Rattle.lines.specs.Lines.{linesOf}
 use Rattle.group.specs.declared.State.{State}
 use Rattle.group.specs.Table.{most}
 use Rattle.group.specs.Hearing.{linkOf}
 use Rattle.group.specs.Frame.{movedTo, frameLines}
 use Rattle.group.specs.Advance.{advancedBy, linesBy, framesWithin}
+use Rattle.places.specs.Words.{Keeps}
 use Rattle.places.specs.Roles.{isBackup, isStill}
 use Rattle.frame.specs.Answers.{stateOf}
 use Rattle.frame.specs.Steps.{Out, NotDue}
@@ -60,6 +61,12 @@ pub record Goes (wet : Bool) (c : State) (target : ℕ) (d : List ℕ) (at : ℕ
   pub some : 0 < count
   pub within : c .frame + count ≤ target
   pub steps : Steps wet count c d at r d′
+
+-- the numbers w of frame t become w′ in frame t′, which is not earlier; in the same frame they are the same
+pub record Moves (w w′ : List ℕ) (t t′ : ℕ) : Type 0 where
+  pub keeps : Keeps w w′
+  pub later : t ≤ t′
+  pub same : t′ ≡ t → w′ ≡ w
 
 -- ---- a calm group: one primary beats, and every other server hears it, or neither hears nor has a timer
 

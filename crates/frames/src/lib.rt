@@ -1,11 +1,14 @@
 // Frames one after another: those in which nothing happens are jumped over, and beats of a calm group come many at a time.
+use group::Links;
+use group::Table;
+use periods::Period;
+use places::Packed;
 use refusal::Refusal;
 use refusal::Verdict;
-use server::Period;
-use server::Role;
-use server::Said;
+use roles::Role;
+use roles::Said;
+use roles::Word;
 use server::Server;
-use server::Word;
 ghost use mathlib.Core.Path.{_≡_};
 ghost use mathlib.Core.Bool.{Bool};
 ghost use Prim.Native.Nat.{_+_, _-_, _<_, _≤_};
@@ -13,15 +16,16 @@ ghost use lib.Dec.{leb, ltb};
 ghost use lib.ListN.{length, getD, set};
 ghost use Rattle.lists.specs.Choice.{choose};
 ghost use Rattle.lists.specs.Lists.{mapFrom};
-ghost use Rattle.server.specs.Period.{beatLimit};
+ghost use Rattle.periods.specs.Period.{beatLimit};
 ghost use Rattle.server.specs.Server.{absent};
 ghost use Rattle.group.specs.Advance.{linesBy, timeGoes, withinGoes};
-ghost use Rattle.places.specs.Words.{sendingNumber, serversOf};
+ghost use Rattle.places.specs.Words.{sendingNumber, serversOf, Keeps, packed};
 ghost use Rattle.places.specs.Roles.{isPrimary};
-ghost use Rattle.frame.specs.Answers.{stateOf};
+ghost use Rattle.frame.specs.Answers.{lastFrame, stateOf};
 ghost use Rattle.frame.specs.Steps.{Out, Loud, NotDue, Rests, AllRest};
 ghost use Rattle.frames.specs.Answers.{Advances, AdvancesIn};
-ghost use Rattle.frames.specs.Steps.{Before, Steps, Goes, Jumps, Fares, Stretches, MovesWithin, pulsed, Waits, AllWait, Calm, Beats};
+ghost use Rattle.frames.specs.Steps.{Before, Steps, Goes, Jumps, Moves, Fares, Stretches, MovesWithin, pulsed, Waits, AllWait, Calm, Beats};
+ghost use Rattle.group.specs.Table.{most};
 
 // ---- quiet frames
 
@@ -31,10 +35,10 @@ fn due(since: u32, limit: u32, frame: u32) -> u32
 {
     let at = (since as u64) + (limit as u64);
     if at <= (frame as u64) {
-        return 4294967295;
+        return u32::MAX;
     }
-    if at > 4294967295 {
-        return 4294967295;
+    if at > (u32::MAX as u64) {
+        return u32::MAX;
     }
     at as u32
 }
@@ -51,9 +55,9 @@ fn wakes(s: Server, period: Period, frame: u32) -> u32
 {
     let role = s.role;
     match role {
-        Role::Down => 4294967295,
-        Role::Idle => 4294967295,
-        Role::Sync => 4294967295,
+        Role::Down => u32::MAX,
+        Role::Idle => u32::MAX,
+        Role::Sync => u32::MAX,
         Role::Backup => due(s.silence, period.silence_limit(), frame),
         Role::Prospect => earlier(
             due(s.beat, period.beat_limit(), frame),
@@ -64,12 +68,12 @@ fn wakes(s: Server, period: Period, frame: u32) -> u32
 }
 
 // No timer of any server is due after the present frame and before the answer.
-fn next_due(words: &[u32; 80], period: Period, frame: u32) -> u32
+fn next_due(words: &Packed, period: Period, frame: u32) -> u32
     ensures { λ r. ⌜ AllRest frame period (serversOf (now (words .entry))) r ⌝ }
 {
-    let mut first: u32 = 4294967295;
+    let mut first: u32 = u32::MAX;
     let mut i: usize = 0;
-    while i < 16 {
+    while i < Table::SERVERS {
         let s = places::server(words, i);
         first = earlier(first, wakes(s, period, frame));
         i += 1;
@@ -92,19 +96,19 @@ fn skipped(first: u32, frame: u32, target: u32) -> u32
 }
 
 // Place i sent nothing, by its number as it stands.
-fn sent_none(words: &[u32; 80], i: usize) -> bool
-    requires { ⌜ i < 16 ⌝ }
+fn sent_none(words: &Packed, i: usize) -> bool
+    requires { ⌜ i < most ⌝ }
     ensures { λ r. ⌜ (r ≡ Bool.true → sendingNumber (getD (serversOf (now (words .entry))) i absent) ≡ 0) ⌝ }
 {
-    words[5 * i + 4] == 0
+    words[places::EACH * i + places::SENDING] == 0
 }
 
 // Nobody sent.
-fn nobody_sent(words: &[u32; 80]) -> bool
+fn nobody_sent(words: &Packed) -> bool
     ensures { λ r. ⌜ (r ≡ Bool.true → Loud (serversOf (now (words .entry))) 0) ⌝ }
 {
     let mut i: usize = 0;
-    while i < 16 {
+    while i < Table::SERVERS {
         if !sent_none(words, i) {
             return false;
         }
@@ -122,7 +126,7 @@ struct Reached {
 }
 
 // Over the frames in which nothing happens: to the last of them, or to the target.
-fn jump(words: &[u32; 80], period: Period, silent: bool, frame: u32, target: u32) -> u32
+fn jump(words: &Packed, period: Period, silent: bool, frame: u32, target: u32) -> u32
     requires { ⌜ (frame < target) × (silent ≡ Bool.true → Loud (serversOf (now words)) 0) ⌝ }
     ensures { λ r. ⌜ Jumps period (serversOf (now (words .entry))) frame target r ⌝ }
 {
@@ -136,8 +140,8 @@ fn jump(words: &[u32; 80], period: Period, silent: bool, frame: u32, target: u32
 
 // The next frame counted, unless the target is reached.
 fn count_next(
-    words: &mut [u32; 80],
-    whole: &[bool; 256],
+    words: &mut Packed,
+    whole: &Links,
     period: Period,
     frame: u32,
     target: u32,
@@ -159,8 +163,8 @@ fn count_next(
 
 // Some frames more, up to the target: those in which nothing happens are jumped over.
 fn count_on(
-    words: &mut [u32; 80],
-    whole: &[bool; 256],
+    words: &mut Packed,
+    whole: &Links,
     period: Period,
     frame: u32,
     target: u32,
@@ -177,8 +181,8 @@ fn count_on(
 
 // All frames up to the target, counted: the place after their lines, or one past the slice's end where they do not fit.
 fn count_all(
-    words: [u32; 80],
-    whole: &[bool; 256],
+    words: Packed,
+    whole: &Links,
     period: Period,
     frame: u32,
     target: u32,
@@ -206,15 +210,15 @@ struct Stretched {
 
 // The next frame, if it fits.
 fn play_fitting(
-    words: &mut [u32; 80],
-    whole: &[bool; 256],
+    words: &mut Packed,
+    whole: &Links,
     period: Period,
     frame: u32,
     out: &mut [u8],
     at: usize,
 ) -> Stretched
-    requires { ⌜ (length (now words) ≡ 80) × (frame < 4294967295) ⌝ }
-    ensures { λ r. ⌜ (length (now (words .exit)) ≡ 80) × Fares (stateOf frame period (serversOf (now (words .entry))) (now (whole .entry))) (now (out .entry)) at (serversOf (now (words .exit))) r (now (out .exit)) ⌝ }
+    requires { ⌜ (length (now words) ≡ packed) × (frame < lastFrame) ⌝ }
+    ensures { λ r. ⌜ Moves (now (words .entry)) (now (words .exit)) frame (r .frame) × Fares (stateOf frame period (serversOf (now (words .entry))) (now (whole .entry))) (now (out .entry)) at (serversOf (now (words .exit))) r (now (out .exit)) ⌝ }
 {
     let fared = frame::play(words, whole, period, frame, out, at);
     if fared.full {
@@ -235,11 +239,11 @@ fn play_fitting(
 // ---- a calm group
 
 // The first place with a primary, or 16.
-fn first_primary(words: &[u32; 80]) -> usize
-    ensures { λ r. ⌜ (r < 16 → isPrimary (getD (serversOf (now (words .entry))) r absent .role) ≡ Bool.true) ⌝ }
+fn first_primary(words: &Packed) -> usize
+    ensures { λ r. ⌜ (r < most → isPrimary (getD (serversOf (now (words .entry))) r absent .role) ≡ Bool.true) ⌝ }
 {
     let mut i: usize = 0;
-    while i < 16 {
+    while i < Table::SERVERS {
         let s = places::server(words, i);
         let role = s.role;
         if places::is_primary(role) {
@@ -271,21 +275,14 @@ fn waits(s: Server, link: bool, period: Period, frame: u32, next: u64) -> bool
 }
 
 // So do all but place b, which they hear.
-fn all_wait(
-    words: &[u32; 80],
-    whole: &[bool; 256],
-    period: Period,
-    b: usize,
-    frame: u32,
-    next: u64,
-) -> bool
-    requires { ⌜ b < 16 ⌝ }
-    ensures { λ r. ⌜ (r ≡ Bool.true → AllWait (serversOf (now (words .entry))) (now (whole .entry)) period b frame next 16) ⌝ }
+fn all_wait(words: &Packed, whole: &Links, period: Period, b: usize, frame: u32, next: u64) -> bool
+    requires { ⌜ b < most ⌝ }
+    ensures { λ r. ⌜ (r ≡ Bool.true → AllWait (serversOf (now (words .entry))) (now (whole .entry)) period b frame next most) ⌝ }
 {
     let mut i: usize = 0;
-    while i < 16 {
+    while i < Table::SERVERS {
         let s = places::server(words, i);
-        let wait = waits(s, whole[16 * b + i], period, frame, next);
+        let wait = waits(s, whole[Table::SERVERS * b + i], period, frame, next);
         if !wait & (i != b) {
             return false;
         }
@@ -302,26 +299,26 @@ fn next_beat(s: Server, period: Period) -> u64
 }
 
 // The place of the primary that beats next, where nothing else happens before; else 16.
-fn calm(words: &[u32; 80], whole: &[bool; 256], period: Period, silent: bool, frame: u32) -> usize
+fn calm(words: &Packed, whole: &Links, period: Period, silent: bool, frame: u32) -> usize
     requires { ⌜ (silent ≡ Bool.true → Loud (serversOf (now words)) 0) ⌝ }
-    ensures { λ r. ⌜ (r < 16 → Calm period (now (whole .entry)) (serversOf (now (words .entry))) r frame (getD (serversOf (now (words .entry))) r absent .beat + beatLimit period)) ⌝ }
+    ensures { λ r. ⌜ (r < most → Calm period (now (whole .entry)) (serversOf (now (words .entry))) r frame (getD (serversOf (now (words .entry))) r absent .beat + beatLimit period)) ⌝ }
 {
     if !silent {
-        return 16;
+        return Table::SERVERS;
     }
     let b = first_primary(words);
-    if b >= 16 {
-        return 16;
+    if b >= Table::SERVERS {
+        return Table::SERVERS;
     }
     let s = places::server(words, b);
     let next = next_beat(s, period);
     if (next <= (frame as u64)) | (period.beat_limit() < 2) {
-        return 16;
+        return Table::SERVERS;
     }
     if all_wait(words, whole, period, b, frame, next) {
         b
     } else {
-        16
+        Table::SERVERS
     }
 }
 
@@ -353,26 +350,26 @@ fn beat_on(
 }
 
 // Place i after a beat of place b in the frame `last`, which was heard in the next.
-fn settle_at(words: &mut [u32; 80], i: usize, b: usize, last: u32)
-    requires { ⌜ (length (now words) ≡ 80) × ((i < 16) × (last < 4294967295)) ⌝ }
-    ensures { λ _. ⌜ (length (now (words .exit)) ≡ 80) × (serversOf (now (words .exit)) ≡ set (serversOf (now (words .entry))) i (pulsed b last i (getD (serversOf (now (words .entry))) i absent))) ⌝ }
+fn settle_at(words: &mut Packed, i: usize, b: usize, last: u32)
+    requires { ⌜ (length (now words) ≡ packed) × ((i < most) × (last < lastFrame)) ⌝ }
+    ensures { λ _. ⌜ Keeps (now (words .entry)) (now (words .exit)) × (serversOf (now (words .exit)) ≡ set (serversOf (now (words .entry))) i (pulsed b last i (getD (serversOf (now (words .entry))) i absent))) ⌝ }
 {
     let s = places::server(words, i);
     let role = s.role;
     if i == b {
-        words[5 * i + 2] = last;
+        words[places::EACH * i + places::BEAT] = last;
     } else if places::is_backup(role) {
-        words[5 * i + 1] = last + 1;
+        words[places::EACH * i + places::SILENCE] = last + 1;
     }
 }
 
 // All places after it.
-fn settle(words: &mut [u32; 80], b: usize, last: u32)
-    requires { ⌜ (length (now words) ≡ 80) × ((last < 4294967295) × (b < 16)) ⌝ }
-    ensures { λ _. ⌜ (length (now (words .exit)) ≡ 80) × (serversOf (now (words .exit)) ≡ mapFrom 0 (pulsed b last) (serversOf (now (words .entry)))) ⌝ }
+fn settle(words: &mut Packed, b: usize, last: u32)
+    requires { ⌜ (length (now words) ≡ packed) × ((last < lastFrame) × (b < most)) ⌝ }
+    ensures { λ _. ⌜ Keeps (now (words .entry)) (now (words .exit)) × (serversOf (now (words .exit)) ≡ mapFrom 0 (pulsed b last) (serversOf (now (words .entry)))) ⌝ }
 {
     let mut i: usize = 0;
-    while i < 16 {
+    while i < Table::SERVERS {
         settle_at(words, i, b, last);
         i += 1;
     }
@@ -380,8 +377,8 @@ fn settle(words: &mut [u32; 80], b: usize, last: u32)
 
 // Beats of place b, one a period, as long as they fit; where there is no room for any line, the next frame, if it fits.
 fn beat_along(
-    words: &mut [u32; 80],
-    whole: &[bool; 256],
+    words: &mut Packed,
+    whole: &Links,
     period: Period,
     b: usize,
     frame: u32,
@@ -390,8 +387,8 @@ fn beat_along(
     out: &mut [u8],
     at: usize,
 ) -> Stretched
-    requires { ⌜ (length (now words) ≡ 80) × ((at ≤ length (now out)) × (((frame < target) × (start < target)) × (Jumps period (serversOf (now words)) frame target start × Calm period (now whole) (serversOf (now words)) b frame (getD (serversOf (now words)) b absent .beat + beatLimit period)))) ⌝ }
-    ensures { λ r. ⌜ (length (now (words .exit)) ≡ 80) × Stretches (stateOf frame period (serversOf (now (words .entry))) (now (whole .entry))) target (now (out .entry)) at (serversOf (now (words .exit))) r (now (out .exit)) ⌝ }
+    requires { ⌜ (length (now words) ≡ packed) × ((at ≤ length (now out)) × (((frame < target) × (start < target)) × (Jumps period (serversOf (now words)) frame target start × Calm period (now whole) (serversOf (now words)) b frame (getD (serversOf (now words)) b absent .beat + beatLimit period)))) ⌝ }
+    ensures { λ r. ⌜ Moves (now (words .entry)) (now (words .exit)) frame (r .frame) × Stretches (stateOf frame period (serversOf (now (words .entry))) (now (whole .entry))) target (now (out .entry)) at (serversOf (now (words .exit))) r (now (out .exit)) ⌝ }
 {
     let s = places::server(words, b);
     let first = next_beat(s, period);
@@ -411,16 +408,16 @@ fn beat_along(
 
 // Some frames more, up to the target, as long as they fit.
 fn stretch(
-    words: &mut [u32; 80],
-    whole: &[bool; 256],
+    words: &mut Packed,
+    whole: &Links,
     period: Period,
     frame: u32,
     target: u32,
     out: &mut [u8],
     at: usize,
 ) -> Stretched
-    requires { ⌜ (length (now words) ≡ 80) × ((at ≤ length (now out)) × (frame < target)) ⌝ }
-    ensures { λ r. ⌜ (length (now (words .exit)) ≡ 80) × Stretches (stateOf frame period (serversOf (now (words .entry))) (now (whole .entry))) target (now (out .entry)) at (serversOf (now (words .exit))) r (now (out .exit)) ⌝ }
+    requires { ⌜ (length (now words) ≡ packed) × ((at ≤ length (now out)) × (frame < target)) ⌝ }
+    ensures { λ r. ⌜ Moves (now (words .entry)) (now (words .exit)) frame (r .frame) × Stretches (stateOf frame period (serversOf (now (words .entry))) (now (whole .entry))) target (now (out .entry)) at (serversOf (now (words .exit))) r (now (out .exit)) ⌝ }
 {
     let silent = nobody_sent(words);
     let start = jump(words, period, silent, frame, target);
@@ -432,7 +429,7 @@ fn stretch(
         };
     }
     let b = calm(words, whole, period, silent, frame);
-    if b < 16 {
+    if b < Table::SERVERS {
         beat_along(words, whole, period, b, frame, start, target, out, at)
     } else {
         play_fitting(words, whole, period, start, out, at)
@@ -441,16 +438,16 @@ fn stretch(
 
 // As many frames towards the target as fit. `held` is what the numbers are.
 fn play_within(
-    words: &mut [u32; 80],
-    held: [u32; 80],
-    whole: &[bool; 256],
+    words: &mut Packed,
+    held: Packed,
+    whole: &Links,
     period: Period,
     frame: u32,
     target: u32,
     out: &mut [u8],
 ) -> Reached
     requires { ⌜ now words ≡ held ⌝ }
-    ensures { λ r. ⌜ MovesWithin (stateOf frame period (serversOf (now (words .entry))) (now (whole .entry))) target (now (out .entry)) (record { servers = serversOf (now (words .exit)); frame = r .frame; at = r .at }) (now (out .exit)) ⌝ }
+    ensures { λ r. ⌜ Moves (now (words .entry)) (now (words .exit)) frame (r .frame) × MovesWithin (stateOf frame period (serversOf (now (words .entry))) (now (whole .entry))) target (now (out .entry)) (record { servers = serversOf (now (words .exit)); frame = r .frame; at = r .at }) (now (out .exit)) ⌝ }
 {
     let mut now = frame;
     let mut at: usize = 0;
@@ -464,24 +461,24 @@ fn play_within(
     Reached { frame: now, at }
 }
 
-// What an advance answers: where it is refused, nothing written, the same frame and the same servers.
+// What an advance answers: where it is refused, nothing written, the same frame and the same numbers.
 pub struct Advance {
     pub verdict: Verdict,
     pub written: usize,
     pub frame: u32,
-    pub words: [u32; 80],
+    pub words: Packed,
 }
 
 // All frames up to the target, or 9; where the target is not after the present frame, nothing happens. They are counted first, so that 9 comes before any byte.
 pub fn run(
-    words: [u32; 80],
-    whole: &[bool; 256],
+    words: Packed,
+    whole: &Links,
     period: Period,
     frame: u32,
     target: u32,
     out: &mut [u8],
 ) -> Advance
-    ensures { λ r. ⌜ Advances (stateOf frame period (serversOf words) (now (whole .entry))) (timeGoes (stateOf frame period (serversOf words) (now (whole .entry))) target) (now (out .entry)) r (now (out .exit)) ⌝ }
+    ensures { λ r. ⌜ Advances (stateOf frame period (serversOf words) (now (whole .entry))) (timeGoes (stateOf frame period (serversOf words) (now (whole .entry))) target) words (now (out .entry)) r (now (out .exit)) ⌝ }
 {
     let counted = count_all(words, whole, period, frame, target, out);
     if counted > out.len() {
@@ -502,7 +499,7 @@ pub fn run(
     }
 }
 
-// What an advance in place answers: where it is refused, nothing written, the same frame and the same servers.
+// What an advance in place answers: where it is refused, nothing written, the same frame and the same numbers.
 pub struct Ran {
     pub verdict: Verdict,
     pub written: usize,
@@ -515,7 +512,7 @@ fn rests(s: Server, period: Period, frame: u32, target: u32) -> bool
 {
     let next = target as u64;
     let role = s.role;
-    let n = server::role_number(role);
+    let n = roles::role_number(role);
     let silence = sleeps(s.silence, period.silence_limit(), frame, next);
     let beat = sleeps(s.beat, period.beat_limit(), frame, next);
     let prospect = sleeps(s.prospect, period.prospect_limit(), frame, next);
@@ -523,11 +520,11 @@ fn rests(s: Server, period: Period, frame: u32, target: u32) -> bool
 }
 
 // Nobody sent, and no timer of anybody is due after the present frame and up to the target.
-fn all_quiet(words: &[u32; 80], period: Period, frame: u32, target: u32) -> bool
+fn all_quiet(words: &Packed, period: Period, frame: u32, target: u32) -> bool
     ensures { λ r. ⌜ (r ≡ Bool.true → Loud (serversOf (now (words .entry))) 0 × AllRest frame period (serversOf (now (words .entry))) (target + 1)) ⌝ }
 {
     let mut i: usize = 0;
-    while i < 16 {
+    while i < Table::SERVERS {
         let s = places::server(words, i);
         let quiet = sent_none(words, i) & rests(s, period, frame, target);
         if !quiet {
@@ -539,7 +536,7 @@ fn all_quiet(words: &[u32; 80], period: Period, frame: u32, target: u32) -> bool
 }
 
 // Whether nothing happens up to the target, which is later.
-fn nothing_until(words: &[u32; 80], period: Period, frame: u32, target: u32) -> bool
+fn nothing_until(words: &Packed, period: Period, frame: u32, target: u32) -> bool
     ensures { λ r. ⌜ (r ≡ Bool.true → (frame < target) × Jumps period (serversOf (now (words .entry))) frame target target) ⌝ }
 {
     if frame < target {
@@ -551,14 +548,14 @@ fn nothing_until(words: &[u32; 80], period: Period, frame: u32, target: u32) -> 
 
 // As many single advances towards the target as fit, in place; 9 where there are some to make and not one fits.
 pub fn run_within(
-    words: &mut [u32; 80],
-    whole: &[bool; 256],
+    words: &mut Packed,
+    whole: &Links,
     period: Period,
     frame: u32,
     target: u32,
     out: &mut [u8],
 ) -> Ran
-    ensures { λ r. ⌜ AdvancesIn (stateOf frame period (serversOf (now (words .entry))) (now (whole .entry))) (withinGoes (stateOf frame period (serversOf (now (words .entry))) (now (whole .entry))) target (length (now (out .entry)))) (now (out .entry)) r (now (words .exit)) (now (out .exit)) ⌝ }
+    ensures { λ r. ⌜ AdvancesIn (stateOf frame period (serversOf (now (words .entry))) (now (whole .entry))) (withinGoes (stateOf frame period (serversOf (now (words .entry))) (now (whole .entry))) target (length (now (out .entry)))) (now (words .entry)) (now (out .entry)) r (now (words .exit)) (now (out .exit)) ⌝ }
 {
     if nothing_until(words, period, frame, target) {
         return Ran {

@@ -13,16 +13,19 @@ use Rattle.refusal.specs.declared.Refusal.{Refusal}
 use Rattle.refusal.specs.Answer.{numberOf, ofVerdict}
 use Rattle.refusal.proofs.Answers.{number-some}
 use Rattle.heartbeat.specs.declared.Heartbeat.{Heartbeat}
-use Rattle.server.specs.declared.Role.the-variants.{Down}
-use Rattle.server.specs.declared.Event.{Event}
-use Rattle.server.specs.declared.Event.the-variants.{Nothing}
-use Rattle.server.specs.declared.Verb.{Verb}
+use Rattle.roles.specs.declared.Role.the-variants.{Down}
+use Rattle.roles.specs.declared.Event.{Event}
+use Rattle.roles.specs.declared.Event.the-variants.{Nothing}
+use Rattle.roles.specs.declared.Verb.{Verb}
 use Rattle.server.specs.Server.{after}
-use Rattle.server.specs.Verbs.{roleNumber, verbAnswer, verbHappens}
-use Rattle.server.proofs.Table.{roles, role-at}
+use Rattle.roles.specs.Roles.{roleNumber}
+use Rattle.server.specs.Verbs.{verbAnswer}
+use Rattle.roles.specs.Verbs.{verbHappens}
+use Rattle.roles.proofs.Table.{roles, role-at}
 use Rattle.front.specs.declared.Front.{Front}
 use Rattle.front.specs.Front.{goesOn, risen, hearing, timing, happens, withServer}
-use Rattle.front.specs.Laws.{hearings, heardAll, FrameIsTheStep, RefusedBeginStays, RefusedVerbStays, NumbersTell}
+use Rattle.front.specs.Laws.{hearings, FrameIsTheStep, RefusedBeginStays, RefusedVerbStays, NumbersTell}
+use Rattle.server.specs.Hearing.{heardAll}
 
 -- the hearings of a front are those of its server, in the present frame
 hearings-of : (f : Front) (hs : List Heartbeat) → hearings f hs ≡ withServer (heardAll (f .frame) (f .server) hs) f

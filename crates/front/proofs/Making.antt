@@ -14,9 +14,9 @@ use Rattle.refusal.specs.Answer.{Answer, accepted, refused, numberOf, ofVerdict
 use Rattle.refusal.proofs.Answers.{number-some}
 use Rattle.server.specs.declared.Made.{Made}
 use Rattle.server.specs.declared.Server.{Server}
-use Rattle.server.specs.declared.Period.{Period}
+use Rattle.periods.specs.declared.Period.{Period}
 use Rattle.server.specs.Server.{idle, Makes}
-use Rattle.server.specs.Period.{takePeriod, leastPeriod, greatestPeriod}
+use Rattle.periods.specs.Period.{takePeriod, leastPeriod, greatestPeriod}
 use Rattle.front.specs.Front.{serverNumbers, frontNumbers, takeFront}
 
 abbrev inRange : ℕ → Bool

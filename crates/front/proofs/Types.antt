@@ -10,8 +10,8 @@ use Rattle.heartbeat.proofs.Heartbeat as HB
 use Rattle.heartbeat.proofs.Heartbeat.Laws as HB′
 use Rattle.refusal.proofs.Verdict as VD
 use Rattle.refusal.proofs.Verdict.Laws as VD′
-use Rattle.server.proofs.Verb as VB
-use Rattle.server.proofs.Verb.Laws as VB′
+use Rattle.roles.proofs.Verb as VB
+use Rattle.roles.proofs.Verb.Laws as VB′
 use Rattle.front.proofs.Front as F
 use Rattle.front.proofs.Front.Laws as F′
 use Rattle.front.proofs.HeardNow as HN

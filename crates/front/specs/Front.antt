@@ -9,14 +9,16 @@ use Rattle.refusal.specs.declared.Verdict.{Verdict}
 use Rattle.refusal.specs.Answer.{Answer, accepted, refused, numberOf, ofVerdict}
 use Rattle.timecode.specs.Read.{inDay}
 use Rattle.heartbeat.specs.declared.Heartbeat.{Heartbeat}
-use Rattle.server.specs.declared.Event.{Event}
-use Rattle.server.specs.declared.Verb.{Verb}
+use Rattle.roles.specs.declared.Event.{Event}
+use Rattle.roles.specs.declared.Verb.{Verb}
 use Rattle.server.specs.declared.Server.{Server}
-use Rattle.server.specs.Period.{leastPeriod, greatestPeriod}
+use Rattle.periods.specs.Period.{leastPeriod, greatestPeriod}
 use Rattle.server.specs.Server.{idle, cleared, after}
-use Rattle.hearing.specs.Hearing.{heard}
+use Rattle.server.specs.Hearing.{heard}
 use Rattle.server.specs.Timers.{timed}
-use Rattle.server.specs.Verbs.{roleNumber, verbAnswer, verbHappens}
+use Rattle.roles.specs.Roles.{roleNumber}
+use Rattle.server.specs.Verbs.{verbAnswer}
+use Rattle.roles.specs.Verbs.{verbHappens}
 use Rattle.front.specs.declared.Front.{Front}
 use Rattle.front.specs.declared.FrontAnswer.{FrontAnswer}
 use Rattle.front.specs.declared.FrontAnswer.the-variants.{Is, Refused}

@@ -5,11 +5,10 @@ use Prim.Native.Nat.{ℕ, _+_}
 use Rattle.refusal.specs.declared.Refusal.{Refusal}
 use Rattle.refusal.specs.declared.Verdict.the-variants.{Accepted, Refused}
 use Rattle.heartbeat.specs.declared.Heartbeat.{Heartbeat}
-use Rattle.server.specs.declared.Event.the-variants.{Nothing}
-use Rattle.server.specs.declared.Verb.{Verb}
-use Rattle.server.specs.declared.Server.{Server}
+use Rattle.roles.specs.declared.Event.the-variants.{Nothing}
+use Rattle.roles.specs.declared.Verb.{Verb}
 use Rattle.server.specs.Server.{cleared}
-use Rattle.hearing.specs.Hearing.{heard}
+use Rattle.server.specs.Hearing.{heardAll}
 use Rattle.server.specs.Timers.{timed}
 use Rattle.front.specs.declared.Front.{Front}
 use Rattle.front.specs.declared.TimedNow.{TimedNow}
@@ -20,11 +19,6 @@ use Rattle.front.specs.Front.{frontNumbers, FrontBegins, hearing, FrontT
 unfoldable pub hearings : Front → List Heartbeat → Front
 hearings f [] = f
 hearings f (h ∷ hs) = hearings (hearing f h .front) hs
-
--- hearing in frame t, one heartbeat at a time: the server after it
-unfoldable pub heardAll : ℕ → Server → List Heartbeat → Server
-heardAll t s [] = s
-heardAll t s (h ∷ hs) = heardAll t (heard t s h .server) hs
 
 -- "a thin front over the step above": `begin`, a `hear` for each heartbeat, and `tick` are the step of one server in the next frame, "the frame number rises by 1;
 -- then, .. hearing and timers". The heartbeats may be any, in any order: who hears what is the channel's

@@ -1,13 +1,13 @@
 // What a playout server holds, and moves on in place from frame to frame.
 use heartbeat::Heartbeat;
+use periods::Period;
+use periods::PeriodAnswer;
 use refusal::Refusal;
 use refusal::Verdict;
-use server::Event;
-use server::Period;
-use server::PeriodAnswer;
-use server::Role;
+use roles::Event;
+use roles::Role;
+use roles::Verb;
 use server::Server;
-use server::Verb;
 use timecode::Timecode;
 ghost use mathlib.Core.Path.{_≡_};
 ghost use Rattle.front.specs.Front.{ofFront, takeFront, withServer, FrontBegins, hearing, FrontHears, timing, FrontTicks, FrontActs};
@@ -128,7 +128,7 @@ impl Front {
         ensures { λ r. ⌜ r ≡ hearing self h ⌝ }
     {
         let was = self.server;
-        let heard = hearing::hear(was, self.frame, h);
+        let heard = was.hear(self.frame, h);
         let event = heard.event;
         let hearer = heard.server;
         let role = hearer.role;

@@ -5,15 +5,15 @@ use mathlib.Core.Logic.{inr}
 use mathlib.Core.List.{List, [], _∷_, _++_, append-assoc, List·Memᴰ, List·Memᴰ·head, List·Memᴰ·tail, List·Memᴰ·not-nil, List·Memᴰ·cases-cons, List·Memᴰ·append-cases, Memᴰ·append-left, Memᴰ·append-right}
 use Prim.Native.Nat.{ℕ, zero, suc, _<_}
 use borrow.Author.Tests.{lt-ltb}
-use Rattle.lists.specs.Lists.{all}
+use Rattle.lists.specs.Lists.{every}
 use Rattle.lists.proofs.Cases.{less, chosen, fst-true, snd-true, on}
-use Rattle.lists.proofs.Clear.{all-append}
+use Rattle.lists.proofs.Clear.{every-append}
 use Rattle.heartbeat.specs.declared.Heartbeat.{Heartbeat}
 use Rattle.heartbeat.proofs.Order.{transitive, total}
 use Rattle.server.specs.declared.Server.{Server}
 use Rattle.server.specs.Server.{rankOf, plainOf, sentBy}
-use Rattle.hearing.specs.Hearing.{fromHigher, fromLower}
-use Rattle.server.proofs.Sent.{all-sent}
+use Rattle.server.specs.Hearing.{fromHigher, fromLower}
+use Rattle.server.proofs.Sent.{every-sent}
 use Rattle.group.specs.declared.State.{State}
 use Rattle.group.specs.Hearing.{place, hearsFrom, over, noPlace, nextSender, sendersAfter, sentByAll, senders, inbox}
 use Rattle.group.proofs.Next.{Apart}
@@ -24,23 +24,23 @@ pub record Falls (s : Server) (hs : List Heartbeat) : Type 0 where
   pub upper : List Heartbeat
   pub under : List Heartbeat
   pub parts : hs ≡ upper ++ under
-  pub highers : all (fromHigher s) upper ≡ true
-  pub lowers : all (fromLower s) under ≡ true
+  pub highers : every (fromHigher s) upper ≡ true
+  pub lowers : every (fromLower s) under ≡ true
 
 -- all of one sender's heartbeats have its rank
-sent-higher : (s x : Server) → fromHigher s (plainOf x) ≡ true → all (fromHigher s) (sentBy x) ≡ true
-sent-higher s x e = all-sent (fromHigher s) x e (inr e) (inr e)
+sent-higher : (s x : Server) → fromHigher s (plainOf x) ≡ true → every (fromHigher s) (sentBy x) ≡ true
+sent-higher s x e = every-sent (fromHigher s) x e (inr e) (inr e)
 
-sent-lower : (s x : Server) → fromLower s (plainOf x) ≡ true → all (fromLower s) (sentBy x) ≡ true
-sent-lower s x e = all-sent (fromLower s) x e (inr e) (inr e)
+sent-lower : (s x : Server) → fromLower s (plainOf x) ≡ true → every (fromLower s) (sentBy x) ≡ true
+sent-lower s x e = every-sent (fromLower s) x e (inr e) (inr e)
 
 module _ (c : State) (s : Server) where
   -- senders that are all lower
-  all-lower : (is : List ℕ) → ((i : ℕ) → List·Memᴰ i is → fromLower s (plainOf (place c i)) ≡ true) → all (fromLower s) (sentByAll c is) ≡ true
+  all-lower : (is : List ℕ) → ((i : ℕ) → List·Memᴰ i is → fromLower s (plainOf (place c i)) ≡ true) → every (fromLower s) (sentByAll c is) ≡ true
   unfolding sentByAll
   all-lower [] h = refl
   all-lower (i ∷ is) h =
-      all-append (fromLower s) (sentBy (place c i)) (sentByAll c is) (sent-lower s (place c i) (h i (List·Memᴰ·head refl))) (all-lower is (λ k m. h k (List·Memᴰ·tail m)))
+      every-append (fromLower s) (sentBy (place c i)) (sentByAll c is) (sent-lower s (place c i) (h i (List·Memᴰ·head refl))) (all-lower is (λ k m. h k (List·Memᴰ·tail m)))
 
   -- each sender lower than those before it
   pub data Descends : List ℕ → Type 0 where
@@ -59,7 +59,7 @@ module _ (c : State) (s : Server) where
         upper = sentBy (place c i) ++ r .upper;
         under = r .under;
         parts = ap (λ (l : List Heartbeat). sentBy (place c i) ++ l) (r .parts) ∙ sym (append-assoc (sentBy (place c i)) (r .upper) (r .under));
-        highers = all-append (fromHigher s) (sentBy (place c i)) (r .upper) (sent-higher s (place c i) e) (r .highers);
+        highers = every-append (fromHigher s) (sentBy (place c i)) (r .upper) (sent-higher s (place c i) e) (r .highers);
         lowers = r .lowers;
       })
       (λ e.
@@ -69,7 +69,7 @@ module _ (c : State) (s : Server) where
         parts = refl;
         highers = refl;
         lowers =
-            all-append (fromLower s) (sentBy (place c i)) (sentByAll c is) (sent-lower s (place c i) e)
+            every-append (fromLower s) (sentBy (place c i)) (sentByAll c is) (sent-lower s (place c i) e)
             (all-lower is (λ k m. transitive (rankOf s) (rankOf (place c i)) (rankOf (place c k)) e (f k m)));
       })
 

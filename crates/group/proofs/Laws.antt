@@ -16,29 +16,30 @@ use Rattle.lists.proofs.Cases.{tested, less, equal, on, chosen, other, and-left
 use Rattle.heartbeat.specs.declared.Heartbeat.{Heartbeat}
 use Rattle.timecode.specs.Label.{dayLength}
 use Rattle.timecode.specs.Read.{inDay}
-use Rattle.server.specs.declared.Role.{Role}
-use Rattle.server.specs.declared.Role.the-variants.{Down, Idle, Sync, Backup, Prospect, Primary}
-use Rattle.server.specs.declared.Event.{Event}
-use Rattle.server.specs.declared.Event.the-variants.{Nothing, ToBackup, ToProspectBeat, ToProspectReveal, Lower, Beat, ToPrimary, ToSync, ToIdle, ToDown, Passed}
-use Rattle.server.specs.declared.Verb.{Verb}
-use Rattle.server.specs.declared.Verb.the-variants.{Start, Ready, Unready, Pass, Crash, Restart, Cut, Mend}
-use Rattle.server.specs.declared.Period.{Period}
+use Rattle.roles.specs.declared.Role.{Role}
+use Rattle.roles.specs.declared.Role.the-variants.{Down, Idle, Sync, Backup, Prospect, Primary}
+use Rattle.roles.specs.declared.Event.{Event}
+use Rattle.roles.specs.declared.Event.the-variants.{Nothing, ToBackup, ToProspectBeat, ToProspectReveal, Lower, Beat, ToPrimary, ToSync, ToIdle, ToDown, Passed}
+use Rattle.roles.specs.declared.Verb.{Verb}
+use Rattle.roles.specs.declared.Verb.the-variants.{Start, Ready, Unready, Pass, Crash, Restart, Cut, Mend}
+use Rattle.periods.specs.declared.Period.{Period}
 use Rattle.server.specs.declared.Server.{Server}
 use Rattle.server.specs.Server.{absent, rankOf, cleared, sentAny, after}
-use Rattle.hearing.specs.Hearing.{hearsIn, attending, heard}
+use Rattle.server.specs.Hearing.{hearsIn, attending, heard, heardAll}
 use Rattle.server.specs.Timers.{silent, beating, rising, afterSilent, afterBeating, afterRising, timed}
 use Rattle.group.specs.declared.State.{State}
 use Rattle.group.specs.Outcome.{Outcome, numberIn, channelIn, writtenIn, sliceIn}
 use Rattle.group.specs.Table.{most}
 use Rattle.group.specs.Hearing.{place, linkOf, whole, noPlace, hearsFrom, comes, nextAmong, nextSender, sendersAfter, sentByAll, inbox}
-use Rattle.group.specs.Frame.{heardAll, hearing, turned, advanced, frameLines}
+use Rattle.group.specs.Frame.{hearing, turned, advanced, frameLines}
 use Rattle.group.specs.Verbs.{placeOf, happens, linksAfter, did}
 use Rattle.group.specs.Advance.{stepOutcome, advancedBy, linesBy, timeRefusal, fitting, framesWithin, withinOutcome}
 use Rattle.group.specs.Calls.{Call, verb, advance, advanceTo, outcomeOf, sliceOf, callNumber, callChannel, callSlice, channelAfter, numbersOf}
 use Rattle.group.specs.Laws.{callLines, RefusedChangesNothing, AcceptedWritesItsLines, KeepsItsTable, EveryCallKeepsTheTable, frameThen, FramesCounted, OthersStay, OtherLinksStay, NothingSentNothingHeard, ListsJoin, linesAfter, AsManyAdvances, AreAdvances, WithinIsAdvances, OneMoreDoesNotFit, Laws}
 use Rattle.group.proofs.Answering.{is-long}
 use Rattle.group.proofs.Places.{frame-after}
-use Rattle.group.proofs.Made.{tables-in-order}
+use Rattle.group.proofs.Made.{tables-in-order, fresh-has-its-table}
+use Rattle.group.proofs.Remade.{adding-makes}
 use Rattle.group.proofs.Heard.{all-hear-in-order}
 
 -- ---- what a call gets
@@ -354,6 +355,8 @@ pub laws : Laws
 laws =
     record {
       tables = tables-in-order;
+      adding = adding-makes;
+      opening = fresh-has-its-table;
       order = all-hear-in-order;
       silence = nothing-sent-nothing-heard;
       refused = refused-changes-nothing;

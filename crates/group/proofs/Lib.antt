@@ -1,5 +1,6 @@
 pub mod Tables
 pub mod Made
+pub mod Remade
 pub mod Answering
 pub mod Places
 pub mod Next

@@ -5,7 +5,7 @@ use mathlib.Core.List.{[], _∷_, List·Memᴰ, List·Memᴰ·head, List·Memᴰ
 use Prim.Native.Nat.{ℕ, zero, suc, _<_, _≤_}
 use native.Mathlib.Omega.{arith}
 use borrow.Author.Tests.{lt-ltb, le-ltb}
-use Rattle.lists.specs.Lists.{count}
+use Rattle.lists.specs.Lists.{countBelow}
 use Rattle.lists.proofs.Cases.{tested, less, chosen, other, and-true, fst-true, snd-true, on, clash}
 use Rattle.lists.proofs.Counting.{count-lt, count-size}
 use Rattle.heartbeat.proofs.Order.{irreflexive, transitive}
@@ -53,7 +53,7 @@ module _ (c : State) (j : ℕ) (apart : Apart c j) where
       (λ h. absurd (List·Memᴰ·not-nil (rw (none-next n last h) at m)))
 
   -- none is left out, if there are as many turns as there are senders
-  complete : (n last : ℕ) → count (waits c j last) 16 ≤ n → (i : ℕ) → i < 16 → waits c j last i ≡ true → List·Memᴰ i (sendersAfter c j n last)
+  complete : (n last : ℕ) → countBelow (waits c j last) 16 ≤ n → (i : ℕ) → i < 16 → waits c j last i ≡ true → List·Memᴰ i (sendersAfter c j n last)
   complete zero last l i h w = absurd (let s = count-lt (λ _. false) (waits c j last) 16 (λ _ _ e. absurd (clash e refl)) i h refl w in omega arith)
   complete (suc n) last l i h w =
       let next = nextSender c j last in

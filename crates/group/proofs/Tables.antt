@@ -1,5 +1,5 @@
 -- Loops over the places of a table. Assumes nothing.
-use mathlib.Core.Bool.{Bool, true, false}
+use mathlib.Core.Bool.{Bool, true, false, _&&_}
 use mathlib.Core.Path.{_≡_, refl, sym, ap, ap₂, _∙_}
 use mathlib.Core.List.{List, [], _∷_, _++_, append-assoc, append-nil}
 use Prim.Native.Nat.{ℕ, suc, _+_, _<_, _≤_}
@@ -10,7 +10,7 @@ use lib.Seq.{drop-cons, take-suc-set, take-all}
 use Rattle.lists.specs.Choice.{choose}
 use Rattle.server.specs.declared.Server.{Server}
 use Rattle.server.specs.Server.{absent}
-use Rattle.group.specs.Table.{isEmpty, counted, standsBefore, enter}
+use Rattle.group.specs.Table.{isEmpty, counted, standsBefore, enter, follows, rises}
 
 -- ---- counting the servers: n of them stand in the first i places
 
@@ -85,3 +85,44 @@ module _ {new : Server} {l : List Server} where
       ∙ sym (append-nil (take i next))
       ∙ ap (λ (t : List Server). take i next ++ enter x t) (sym (drop-of-length-le l (let g : length l ≤ i = omega (arith, v .long) in g)))
       ∙ v .so-far
+
+-- ---- identities that rise: they do so up to place i, where `last` stands before it
+
+pub record Climbing (l : List Server) (last : Server) (rising : Bool) (i : ℕ) : Type 0 where
+  pub long : length l ≡ 16
+  pub within : i ≤ 16
+  pub so-far : (rising && rises (last ∷ drop i l)) ≡ rises l
+
+module _ {l : List Server} where
+  pub climb-begin : length l ≡ 16 → Climbing l (getD l 0 absent) true 1
+  climb-begin e = record { long = e; within = omega arith; so-far = ap rises (sym (drop-cons l 0 absent (omega (arith, e)))) }
+
+  pub climb-turn :
+      {last : Server} {rising more : Bool} {i : ℕ} → Climbing l last rising i → i < 16 → more ≡ follows last (getD l i absent) →
+      Climbing l (getD l i absent) (rising && more) (i + 1)
+  unfolding rises
+  climb-turn {last} {rising} {more} {i} v h e =
+      let x = getD l i absent in
+      rw add-one
+      (record {
+        long = v .long;
+        within = omega arith;
+        so-far =
+            and-assoc rising more (rises (x ∷ drop (suc i) l))
+            ∙ ap (λ (t : Bool). rising && (t && rises (x ∷ drop (suc i) l))) e
+            ∙ ap (λ (m : List Server). rising && rises (last ∷ m)) (sym (drop-cons l i absent (omega (arith, v .long))))
+            ∙ v .so-far;
+      })
+    where
+      and-assoc : (a b c : Bool) → ((a && b) && c) ≡ (a && (b && c))
+      and-assoc true b c = refl
+      and-assoc false b c = refl
+
+  pub climb-end : {last : Server} {rising : Bool} {i : ℕ} → Climbing l last rising i → 16 ≤ i → rising ≡ rises l
+  unfolding rises
+  climb-end {last} {rising} {i} v h =
+      and-last rising ∙ ap (λ (m : List Server). rising && rises (last ∷ m)) (sym (drop-of-length-le l (let g : length l ≤ i = omega (arith, v .long) in g))) ∙ v .so-far
+    where
+      and-last : (a : Bool) → a ≡ (a && true)
+      and-last true = refl
+      and-last false = refl

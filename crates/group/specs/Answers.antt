@@ -7,19 +7,25 @@ use lib.ListN.{length}
 use Rattle.lists.specs.Choice.{choose}
 use Rattle.refusal.specs.declared.Verdict.{Verdict}
 use Rattle.refusal.specs.Answer.{ofVerdict}
-use Rattle.server.specs.Period.{leastPeriod}
+use Rattle.server.specs.declared.Server.{Server}
+use Rattle.periods.specs.Period.{leastPeriod}
 use Rattle.group.specs.declared.Table.{Table}
 use Rattle.group.specs.declared.State.{State}
 use Rattle.group.specs.declared.Added.{Added}
 use Rattle.group.specs.declared.Opened.{Opened}
 use Rattle.group.specs.Outcome.{Outcome, numberIn, channelIn, writtenIn, sliceIn}
-use Rattle.group.specs.Table.{empty, addRefusal, added, freshRefusal, fresh}
+use Rattle.group.specs.Table.{empty, isTable, tableWith, addRefusal, added, freshRefusal, fresh}
 use Rattle.group.specs.Laws.{Laws}
 
 -- adding a server of identity i and priority p to the table t
 pub record Adds (t : Table) (i p : ℕ) (r : Added) : Type 0 where
   pub number : ofVerdict (r .verdict) ≡ addRefusal t i
   pub table : r .table ≡ added t i p
+
+-- the table of the servers l; 2 where adding does not make them
+pub record Takes (l : List Server) (r : Added) : Type 0 where
+  pub number : ofVerdict (r .verdict) ≡ choose (isTable l) 0 2
+  pub table : r .table ≡ tableWith l
 
 -- the state that is handed back where no channel is opened: one with no server. Document 01 leaves it free
 abbrev pub noChannel : State

@@ -6,18 +6,14 @@ use Rattle.heartbeat.specs.declared.Heartbeat.{Heartbeat}
 use Rattle.server.specs.declared.Server.{Server}
 use Rattle.server.specs.declared.Timed.{Timed}
 use Rattle.server.specs.Server.{cleared}
-use Rattle.hearing.specs.Hearing.{heard}
+use Rattle.server.specs.Hearing.{heard, heardAll}
 use Rattle.server.specs.Timers.{timed}
-use Rattle.server.specs.Words.{said}
+use Rattle.roles.specs.Words.{said}
 use Rattle.group.specs.declared.State.{State}
 use Rattle.lines.specs.Lines.{linesOf}
 use Rattle.group.specs.Hearing.{inbox}
 
--- hearing in frame t, one heartbeat at a time: the server after it, and its lines
-unfoldable pub heardAll : ℕ → Server → List Heartbeat → Server
-heardAll t s [] = s
-heardAll t s (h ∷ hs) = heardAll t (heard t s h .server) hs
-
+-- the lines of a server that hears all of a list in frame t, one heartbeat at a time
 unfoldable pub heardLines : ℕ → Server → List Heartbeat → List ℕ
 heardLines t s [] = []
 heardLines t s (h ∷ hs) = linesOf t (s .identity) (said (heard t s h .event)) ++ heardLines t (heard t s h .server) hs

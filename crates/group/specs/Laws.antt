@@ -9,13 +9,13 @@ use lib.Dec.{eqb}
 use lib.ListN.{length, drop, replicate, getD}
 use Rattle.lists.specs.Choice.{choose}
 use Rattle.heartbeat.specs.declared.Rank.{Rank}
-use Rattle.server.specs.declared.Verb.{Verb}
+use Rattle.roles.specs.declared.Verb.{Verb}
 use Rattle.server.specs.declared.Server.{Server}
-use Rattle.server.specs.Server.{absent, idle, rankOf, cleared, sentAny}
+use Rattle.server.specs.Server.{absent, rankOf, cleared, sentAny}
 use Rattle.group.specs.declared.Table.{Table}
 use Rattle.group.specs.declared.State.{State}
 use Rattle.group.specs.Outcome.{writtenIn}
-use Rattle.group.specs.Table.{most, isEmpty, tableOf}
+use Rattle.group.specs.Table.{most, anew, isTable, tableOf, freshRefusal, fresh}
 use Rattle.group.specs.Hearing.{place, linkOf, whole, hearsFrom, over, noPlace, senders}
 use Rattle.group.specs.Frame.{hearing}
 use Rattle.group.specs.Verbs.{placeOf}
@@ -34,11 +34,25 @@ pub record InOrder (t : Table) : Type 0 where
       (i j : ℕ) → i < j → j < most → 0 < serverAt t j .identity →
       (0 < serverAt t i .identity) × (serverAt t i .identity < serverAt t j .identity)
   -- "all servers idle .. nothing sent"
-  pub idles : (i : ℕ) → i < most → let s = serverAt t i in s ≡ choose (isEmpty s) absent (idle (s .identity) (s .priority))
+  pub idles : (i : ℕ) → i < most → serverAt t i ≡ anew (serverAt t i)
 
 -- so is every table that is made by adding servers
 abbrev pub TablesInOrder : Type 0
 TablesInOrder = (rs : List Rank) → InOrder (tableOf rs)
+
+-- adding makes the servers l
+pub record IsMade (l : List Server) : Type 0 where
+  pub ranks : List Rank
+  pub made : tableOf ranks ≡ record { servers = l }
+
+-- `isTable` holds of the servers that adding makes, and of no others
+pub record AddingMakes : Type 0 where
+  pub each : (rs : List Rank) → isTable (tableOf rs .servers) ≡ true
+  pub only : (l : List Server) → isTable l ≡ true → IsMade l
+
+-- a channel that is not refused has the servers of its table
+abbrev pub FreshHasItsTable : Type 0
+FreshHasItsTable = (t : Table) (n : ℕ) → freshRefusal t n ≡ 0 → (isTable (t .servers) ≡ true) × (fresh t n .servers ≡ t .servers)
 
 -- ---- hearing
 
@@ -169,6 +183,8 @@ OneMoreDoesNotFit = (c : State) (t room : ℕ) → framesWithin c t room < t - c
 
 pub record Laws : Type 0 where
   pub tables : TablesInOrder
+  pub adding : AddingMakes
+  pub opening : FreshHasItsTable
   pub order : AllHearInOrder
   pub silence : NothingSentNothingHeard
   pub refused : RefusedChangesNothing

@@ -5,15 +5,16 @@ use Prim.Native.Nat.{ℕ}
 use lib.Dec.{eqb}
 use lib.ListN.{set}
 use Rattle.lists.specs.Choice.{choose}
-use Rattle.server.specs.declared.Verb.{Verb}
-use Rattle.server.specs.declared.Verb.the-variants.{Start, Ready, Unready, Pass, Crash, Restart, Cut, Mend}
-use Rattle.server.specs.declared.Event.{Event}
-use Rattle.server.specs.declared.Word.the-variants as word
-use Rattle.server.specs.declared.Said.{Said}
-use Rattle.server.specs.declared.Said.the-variants as says
+use Rattle.roles.specs.declared.Verb.{Verb}
+use Rattle.roles.specs.declared.Verb.the-variants.{Start, Ready, Unready, Pass, Crash, Restart, Cut, Mend}
+use Rattle.roles.specs.declared.Event.{Event}
+use Rattle.roles.specs.declared.Word.the-variants as word
+use Rattle.roles.specs.declared.Said.{Said}
+use Rattle.roles.specs.declared.Said.the-variants as says
 use Rattle.server.specs.Server.{after}
-use Rattle.server.specs.Verbs.{paired, verbAnswer, verbHappens}
-use Rattle.server.specs.Words.{said}
+use Rattle.roles.specs.Verbs.{paired, verbHappens}
+use Rattle.server.specs.Verbs.{verbAnswer}
+use Rattle.roles.specs.Words.{said}
 use Rattle.group.specs.declared.State.{State}
 use Rattle.group.specs.Outcome.{Outcome}
 use Rattle.group.specs.Table.{placeIn, isIn}

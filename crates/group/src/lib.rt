@@ -1,29 +1,37 @@
 // The group of a channel: its table of servers, and its state in a frame.
+use periods::Period;
+use periods::PeriodAnswer;
 use refusal::Refusal;
 use refusal::Verdict;
-use server::Period;
-use server::PeriodAnswer;
 use server::Server;
 ghost use mathlib.Core.Path.{_≡_};
 ghost use mathlib.Core.Bool.{Bool};
-ghost use Prim.Native.Nat.{_≤_};
+ghost use Prim.Native.Nat.{_*_, _≤_};
 ghost use lib.ListN.{replicate};
 ghost use Rattle.lists.specs.Choice.{choose};
-ghost use Rattle.server.specs.Period.{beatLimit};
-ghost use Rattle.group.specs.Table.{empty, isEmpty, counted, placeIn, standsBefore, enter};
-ghost use Rattle.group.specs.Answers.{Adds, noChannel, Opens};
+ghost use Rattle.lists.specs.Lists.{every};
+ghost use Rattle.periods.specs.Period.{leastPeriod, greatestPeriod, beatLimit};
+ghost use Rattle.roles.specs.Roles.{roleNumber};
+ghost use Rattle.group.specs.Table.{most, empty, isEmpty, counted, named, placeIn, standsBefore, enter, anew, isNew, follows, rises, isTable};
+ghost use Rattle.group.specs.Answers.{Adds, Takes, noChannel, Opens};
 
-// The servers of a channel in rising identity; empty places, of identity 0, come last. Made by `empty` and `add`.
+// A place for each server that a channel may have.
+pub type Servers = [Server; Table::SERVERS];
+
+// The links between them, true where they are whole: the one from place i to place j is at Table::SERVERS * i + j.
+pub type Links = [bool; Table::LINKS];
+
+// The servers of a channel in rising identity; empty places, of identity 0, come last. Made by `empty` and `add`; `of` takes the servers of one that they made.
 pub struct Table {
-    pub servers: [Server; 16],
+    servers: Servers,
 }
 
-// A channel's state in a frame. The link from place i to place j is at 16 * i + j, true where it is whole.
+// A channel's state in a frame.
 pub struct State {
     pub frame: u32,
     pub period: Period,
-    pub servers: [Server; 16],
-    pub whole: [bool; 256],
+    pub servers: Servers,
+    pub whole: Links,
 }
 
 // A table after a server is added, or the same one.
@@ -40,14 +48,21 @@ pub struct Opened {
 
 // ---- the table
 
-// The place of an identity, or 16; for 0 the first empty place, if there is one.
-fn place_in(servers: [Server; 16], identity: u16) -> usize
+// Whether this is the server of an identity; 0 is nobody's.
+pub fn named(identity: u16, s: Server) -> bool
+    ensures { λ r. ⌜ r ≡ named identity s ⌝ }
+{
+    (identity != 0) & (s.identity == identity)
+}
+
+// The place of an identity, or 16; no place is that of 0.
+pub fn place_in(servers: Servers, identity: u16) -> usize
     ensures { λ r. ⌜ r ≡ placeIn servers identity ⌝ }
 {
     let mut place = 0;
     while place < Table::SERVERS {
         let s = servers[place];
-        if s.identity == identity {
+        if named(identity, s) {
             return place;
         }
         place += 1;
@@ -63,7 +78,7 @@ fn one(s: Server) -> usize
 }
 
 // How many servers there are.
-fn count(servers: [Server; 16]) -> usize
+fn count(servers: Servers) -> usize
     ensures { λ r. ⌜ r ≡ counted servers ⌝ }
 {
     let mut n: usize = 0;
@@ -89,7 +104,7 @@ fn pick(first: bool, a: Server, b: Server) -> Server
 }
 
 // The new server into its place; those after it move up by one.
-fn enter(servers: [Server; 16], new: Server) -> [Server; 16]
+fn enter(servers: Servers, new: Server) -> Servers
     ensures { λ r. ⌜ r ≡ enter new servers ⌝ }
 {
     let mut next = servers;
@@ -106,17 +121,107 @@ fn enter(servers: [Server; 16], new: Server) -> [Server; 16]
     next
 }
 
+// The server as it was added: idle and with nothing sent, or nobody in an empty place.
+fn anew(s: Server) -> Server
+    ensures { λ r. ⌜ r ≡ anew s ⌝ }
+{
+    let made = Server::new(s.identity, s.priority);
+    made.server
+}
+
+fn is_new(s: Server) -> bool
+    ensures { λ r. ⌜ r ≡ isNew s ⌝ }
+{
+    let new = anew(s);
+    let role = s.role;
+    let first = new.role;
+    let idles = roles::role_number(role) == roles::role_number(first);
+    let unset = (s.silence == 0) & ((s.beat == 0) & (s.prospect == 0));
+    let unsent = (s.beats == 0) & (!s.reveal & (s.pass == 0));
+    idles & ((s.priority == new.priority) & (unset & unsent))
+}
+
+// x may stand after s.
+fn follows(s: Server, x: Server) -> bool
+    ensures { λ r. ⌜ r ≡ follows s x ⌝ }
+{
+    (x.identity == 0) | ((s.identity != 0) & (s.identity < x.identity))
+}
+
+fn are_new(servers: Servers) -> bool
+    ensures { λ r. ⌜ r ≡ every isNew servers ⌝ }
+{
+    let mut i: usize = 0;
+    while i < Table::SERVERS {
+        let s = servers[i];
+        if !is_new(s) {
+            return false;
+        }
+        i += 1;
+    }
+    true
+}
+
+// In rising identity, empty places last.
+fn rise(servers: Servers) -> bool
+    ensures { λ r. ⌜ r ≡ rises servers ⌝ }
+{
+    let mut last = servers[0];
+    let mut rising = true;
+    let mut i: usize = 1;
+    while i < Table::SERVERS {
+        let s = servers[i];
+        rising = rising & follows(last, s);
+        last = s;
+        i += 1;
+    }
+    rising
+}
+
+// Whether adding makes these servers.
+pub fn is_table(servers: Servers) -> bool
+    ensures { λ r. ⌜ r ≡ isTable servers ⌝ }
+{
+    are_new(servers) & rise(servers)
+}
+
 impl Table {
     // Servers of a channel, at most.
     pub const SERVERS: usize = 16;
+
+    // Links between them, also one from each place to itself, which nothing uses.
+    pub const LINKS: usize = Table::SERVERS * Table::SERVERS;
 
     // The table of no server.
     pub fn empty() -> Table
         ensures { λ r. ⌜ r ≡ empty ⌝ }
     {
         let nobody = Server::absent();
-        let servers = [nobody; 16];
+        let servers = [nobody; Table::SERVERS];
         Table { servers }
+    }
+
+    // The table that has these servers; 2, and the table of no server, where adding does not make them.
+    pub fn of(servers: Servers) -> Added
+        ensures { λ r. ⌜ Takes servers r ⌝ }
+    {
+        if is_table(servers) {
+            let table = Table { servers };
+            Added {
+                verdict: Verdict::Accepted,
+                table,
+            }
+        } else {
+            let table = Table::empty();
+            table.refused(Refusal::Number)
+        }
+    }
+
+    // Its servers.
+    pub fn servers(self) -> Servers
+        ensures { λ r. ⌜ r ≡ self .servers ⌝ }
+    {
+        self.servers
     }
 
     fn refused(self, k: Refusal) -> Added
@@ -146,10 +251,10 @@ impl Table {
     {
         let made = Server::new(identity, priority);
         let new = made.server;
-        if identity == 0 {
+        let servers = self.servers;
+        if !(is_table(servers) & (identity != 0)) {
             return self.refused(Refusal::Number);
         }
-        let servers = self.servers;
         if place_in(servers, identity) < Table::SERVERS {
             return self.refused(Refusal::Taken);
         }
@@ -162,10 +267,10 @@ impl Table {
 
 // ---- the fresh channel
 
-fn open(servers: [Server; 16], period: Period) -> State
-    ensures { λ r. ⌜ r ≡ record { frame = 0; period = period; servers = servers; whole = replicate 256 Bool.true } ⌝ }
+fn open(servers: Servers, period: Period) -> State
+    ensures { λ r. ⌜ r ≡ record { frame = 0; period = period; servers = servers; whole = replicate (most * most) Bool.true } ⌝ }
 {
-    let whole = [true; 256];
+    let whole = [true; Table::LINKS];
     State {
         frame: 0,
         period,
@@ -188,10 +293,13 @@ fn unopened(k: Refusal) -> Opened
 }
 
 fn open_with(table: Table, period: Period) -> Opened
-    requires { ⌜ (2 ≤ beatLimit period) × (beatLimit period ≤ 250) ⌝ }
+    requires { ⌜ (leastPeriod ≤ beatLimit period) × (beatLimit period ≤ greatestPeriod) ⌝ }
     ensures { λ r. ⌜ Opens table (beatLimit period) r ⌝ }
 {
     let servers = table.servers;
+    if !is_table(servers) {
+        return unopened(Refusal::Number);
+    }
     let n = count(servers);
     if n == 0 {
         return unopened(Refusal::Servers);

@@ -12,14 +12,14 @@ use lib.Seq.{take-append-seam}
 use Rattle.lists.specs.Choice.{choose}
 use Rattle.lists.specs.Lists.{upTo}
 use Rattle.lists.proofs.Cases.{chosen, and-true, bit-small}
-use Rattle.lists.proofs.Clear.{Clear, clear-append, all-weaker, upTo-clear, split-clear, split-whole}
+use Rattle.lists.proofs.Clear.{Clear, clear-append, every-weaker, upTo-clear, split-clear, split-whole}
 use Rattle.refusal.specs.Answer.{Answer, accepted, inTurn}
 use Rattle.text.specs.Words.{bytes}
 use Rattle.text.specs.Digits.{digits}
 use Rattle.text.specs.Number.{isDigit}
 use Rattle.text.specs.Line.{readLine, fields}
 use Rattle.text.proofs.Digits.{digits-few, digit-least}
-use Rattle.text.proofs.Trips.{all-digits, number-reads-back}
+use Rattle.text.proofs.Trips.{every-digits, number-reads-back}
 use Rattle.heartbeat.specs.Heartbeat.{isSet, readFields, readBody, readHeartbeat, revealWritten, heartbeatLine}
 use Rattle.heartbeat.specs.Trips.{HeartbeatReadsBack}
 
@@ -28,10 +28,10 @@ digits-clear : (c n : ℕ) → c < 48 → Clear c (digits n)
 digits-clear c n h =
     record {
       none =
-          all-weaker isDigit (λ x. not (eqb x c))
+          every-weaker isDigit (λ x. not (eqb x c))
           (λ x d. ap not (ne-eqb x c (apart x (digit-least x d))))
           (digits n)
-          (all-digits n);
+          (every-digits n);
     }
   where
     apart : (x : ℕ) → 48 ≤ x → x ≡ c → ⊥

@@ -96,7 +96,7 @@ fn number(read: NumberAnswer, out: &mut [u8]) -> Written {
 
 fn timecode(read: TimecodeAnswer, out: &mut [u8]) -> Written {
     match read {
-        TimecodeAnswer::Is(t) => value(t.frame as u64, out),
+        TimecodeAnswer::Is(t) => value(t.frame() as u64, out),
         TimecodeAnswer::Refused(k) => refused(k, out),
     }
 }
@@ -197,13 +197,17 @@ fn write_bytes(s: &[u8], slice: &mut [u8], at: usize, out: &mut [u8]) -> Written
     wrote(written, slice, out)
 }
 
+fn write_label(read: TimecodeAnswer, slice: &mut [u8], at: usize) -> Written {
+    match read {
+        TimecodeAnswer::Is(t) => t.write(slice, at),
+        TimecodeAnswer::Refused(k) => Written::Refused(k),
+    }
+}
+
 fn write_timecode(s: &[u8], slice: &mut [u8], at: usize, out: &mut [u8]) -> Written {
     let frame = Arg::first(s, u32::MAX as u64);
     if frame.good {
-        let t = Timecode {
-            frame: frame.n as u32,
-        };
-        let written = t.write(slice, at);
+        let written = write_label(Timecode::of_frame(frame.n as u32), slice, at);
         wrote(written, slice, out)
     } else {
         confused(out)
@@ -390,11 +394,11 @@ fn print(out: &[u8], n: usize) {
 }
 
 // The place after a line of n bytes and its line feed.
-fn past(n: usize, length: usize) -> usize
-    requires { ⌜ (n ≤ length) × (0 < length) ⌝ }
-    ensures { λ r. ⌜ (0 < r) × (r ≤ length) ⌝ }
+fn past(n: usize, end: usize) -> usize
+    requires { ⌜ (n ≤ end) × (0 < end) ⌝ }
+    ensures { λ r. ⌜ (0 < r) × (r ≤ end) ⌝ }
 {
-    if n < length { n + 1 } else { length }
+    if n < end { n + 1 } else { end }
 }
 
 // Answers the case that tail begins with, and tells where the next one begins.

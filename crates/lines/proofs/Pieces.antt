@@ -9,9 +9,9 @@ use Rattle.text.specs.Digits.{digits}
 use Rattle.text.specs.Words.{bytes}
 use Rattle.text.proofs.Digits.{digits-few}
 use Rattle.timecode.specs.Label.{label}
-use Rattle.server.specs.declared.Word.{Word}
-use Rattle.server.specs.declared.Word.the-variants as word
-use Rattle.server.specs.Words.{wordBytes}
+use Rattle.roles.specs.declared.Word.{Word}
+use Rattle.roles.specs.declared.Word.the-variants as word
+use Rattle.roles.specs.Words.{wordBytes}
 use Rattle.lines.specs.Lines.{line, refusedWord}
 
 -- an identity, or a number below it, has few digits

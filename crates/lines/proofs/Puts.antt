@@ -1,19 +1,18 @@
--- Bytes written where they fit, one piece after the other; the pieces of a number and of a line. Assumes nothing.
+-- Bytes written where they fit, one piece after the other; the pieces of a line. Assumes nothing.
 use mathlib.Core.Path.{_≡_, sym, ap, ap₂, _∙_}
-use mathlib.Core.List.{List, [], _∷_, _++_, append-assoc, append-nil}
-use Prim.Native.Nat.{ℕ, _+_, _-_, _/_, _≤_, _<_}
+use mathlib.Core.List.{List, _++_, append-assoc, append-nil}
+use Prim.Native.Nat.{ℕ, _+_, _-_, _≤_}
 use native.Mathlib.Omega.{arith}
 use borrow.Rule.Slice.PartMut.{midOf, putMid, mid-len, post-is}
 use lib.ListN.{length, take, drop, length-append}
 use lib.Seq.{drop-length}
 use Rattle.lists.specs.Splice.{splice}
 use Rattle.lists.proofs.Splicing.{splice-length, splices}
-use Rattle.text.specs.Digits.{lastDigit, digits}
+use Rattle.text.specs.Digits.{digits}
 use Rattle.text.specs.Words.{bytes}
 use Rattle.text.specs.Write.{Writes}
 use Rattle.text.specs.declared.Written.{Written}
 use Rattle.text.specs.declared.Written.the-variants.{To}
-use Rattle.text.proofs.Digits.{digits-one, digits-more}
 use Rattle.timecode.specs.Label.{label}
 use Rattle.lines.specs.Lines.{lineEnd, line}
 use Rattle.text.proofs.Writing.{first-piece, writes-to, written-end, written-slice}
@@ -51,24 +50,6 @@ module _ {d : List ℕ} {at : ℕ} {w : List ℕ} {k : ℕ} {d₁ : List ℕ} (v
       h
       (omega (arith, length-append w v, written-end fits p, written-end room q))
       (written-slice room q ∙ ap₂ (λ (l : List ℕ) (n : ℕ). splice l n v) (written-slice fits p) (written-end fits p) ∙ splices d at w v h)
-
--- a number of one digit
-pub one-digit : {d : List ℕ} {at n : ℕ} {r : Written} {d′ : List ℕ} → n < 10 → Writes d at (lastDigit n ∷ []) r d′ → Writes d at (digits n) r d′
-one-digit {n = n} g p = rw (digits-one n g) p
-
--- one of more: the last digit after those of its tenth
-module _
-    {d : List ℕ} {at k : ℕ} {d₁ : List ℕ} (n : ℕ) (g : 10 ≤ n) (h : at + length (digits n) ≤ length d)
-    (p : Writes d at (digits (n / 10)) (To k) d₁)
-  where
-    both : at + length (digits (n / 10) ++ (lastDigit n ∷ [])) ≤ length d
-    both = rw (digits-more n g) at h
-
-    pub last-room : k < length d₁
-    last-room = omega (arith, room (lastDigit n ∷ []) both p)
-
-    pub more-digits : {r : ℕ} {d₂ : List ℕ} → Writes d₁ k (lastDigit n ∷ []) (To r) d₂ → Writes d at (digits n) (To r) d₂
-    more-digits q = rw (digits-more n g) (then (lastDigit n ∷ []) both p q)
 
 -- the pieces of a line: each has room after those before it, and together they are the line
 module _ {d : List ℕ} {at a : ℕ} {d₁ : List ℕ} (t i : ℕ) (w : List ℕ) (h : at + length (line t i w) ≤ length d) (label-put : Writes d at (label t) (To a) d₁) where

@@ -11,9 +11,9 @@ use Rattle.refusal.specs.Answer.{numberOf}
 use Rattle.text.specs.Words.{bytes}
 use Rattle.text.specs.Digits.{digits}
 use Rattle.timecode.specs.Label.{label}
-use Rattle.server.specs.declared.Said.{Said}
-use Rattle.server.specs.declared.Said.the-variants as says
-use Rattle.server.specs.Words.{wordBytes}
+use Rattle.roles.specs.declared.Said.{Said}
+use Rattle.roles.specs.declared.Said.the-variants as says
+use Rattle.roles.specs.Words.{wordBytes}
 
 -- "Each further line has the timecode, the identity, and a word"
 unfoldable pub line : ℕ → ℕ → List ℕ → List ℕ

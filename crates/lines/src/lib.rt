@@ -1,19 +1,19 @@
 // The sheet's lines about servers, written or only counted.
 use refusal::Refusal;
-use server::Said;
-use server::Word;
+use roles::Said;
+use roles::Word;
 use text::Written;
 use timecode::Timecode;
 ghost use mathlib.Core.Path.{_≡_};
 ghost use mathlib.Core.Bool.{true};
-ghost use mathlib.Core.List.{[], _∷_, _++_};
+ghost use mathlib.Core.List.{_++_};
 ghost use Prim.Native.Nat.{_+_, _^_, _≤_, _<_};
 ghost use lib.ListN.{length};
 ghost use Rattle.lists.specs.Choice.{choose};
-ghost use Rattle.text.specs.Digits.{lastDigit, digits};
+ghost use Rattle.text.specs.Digits.{digits};
 ghost use Rattle.text.specs.Write.{roomFor, Writes};
 ghost use Rattle.text.specs.Steps.{Pieces};
-ghost use Rattle.server.specs.Words.{wordBytes};
+ghost use Rattle.roles.specs.Words.{wordBytes};
 ghost use Rattle.lines.specs.Lines.{lineEnd, line, linesOf, refusedWord, refusedLine, Says};
 
 fn word_length(word: Word) -> usize
@@ -63,61 +63,14 @@ fn put_bytes(out: &mut [u8], at: usize, bytes: &[u8]) -> usize
     end
 }
 
-// The last digit of n.
-fn put_last(out: &mut [u8], at: usize, n: u16) -> usize
-    requires { ⌜ at < length (now out) ⌝ }
-    ensures { λ r. ⌜ Writes (now (out .entry)) at (lastDigit n ∷ []) (Written.To r) (now (out .exit)) ⌝ }
-{
-    out[at] = b'0' + (n % 10) as u8;
-    at + 1
-}
-
-// The digits of n, at most two, three, four and five of them: `text` has the recursion that these unfold.
-fn put_two_digits(out: &mut [u8], at: usize, n: u16) -> usize
-    requires { ⌜ (n < 100) × (at + length (digits n) ≤ length (now out)) ⌝ }
-    ensures { λ r. ⌜ Writes (now (out .entry)) at (digits n) (Written.To r) (now (out .exit)) ⌝ }
-{
-    if n < 10 {
-        put_last(out, at, n)
-    } else {
-        let last = put_last(out, at, n / 10);
-        put_last(out, last, n)
-    }
-}
-
-fn put_three_digits(out: &mut [u8], at: usize, n: u16) -> usize
-    requires { ⌜ (n < 1000) × (at + length (digits n) ≤ length (now out)) ⌝ }
-    ensures { λ r. ⌜ Writes (now (out .entry)) at (digits n) (Written.To r) (now (out .exit)) ⌝ }
-{
-    if n < 10 {
-        put_last(out, at, n)
-    } else {
-        let last = put_two_digits(out, at, n / 10);
-        put_last(out, last, n)
-    }
-}
-
-fn put_four_digits(out: &mut [u8], at: usize, n: u16) -> usize
-    requires { ⌜ (n < 10000) × (at + length (digits n) ≤ length (now out)) ⌝ }
-    ensures { λ r. ⌜ Writes (now (out .entry)) at (digits n) (Written.To r) (now (out .exit)) ⌝ }
-{
-    if n < 10 {
-        put_last(out, at, n)
-    } else {
-        let last = put_three_digits(out, at, n / 10);
-        put_last(out, last, n)
-    }
-}
-
-fn put_digits(out: &mut [u8], at: usize, n: u16) -> usize
+// A number, by the digit writer of `text`.
+fn put_number(out: &mut [u8], at: usize, n: u16) -> usize
     requires { ⌜ at + length (digits n) ≤ length (now out) ⌝ }
     ensures { λ r. ⌜ Writes (now (out .entry)) at (digits n) (Written.To r) (now (out .exit)) ⌝ }
 {
-    if n < 10 {
-        put_last(out, at, n)
-    } else {
-        let last = put_four_digits(out, at, n / 10);
-        put_last(out, last, n)
+    match text::write_number(out, at, n as u64) {
+        Written::To(end) => end,
+        Written::Refused(_) => at,
     }
 }
 
@@ -146,11 +99,10 @@ fn put_line(out: &mut [u8], at: usize, frame: u32, identity: u16, word: Word) ->
     requires { ⌜ at + length (line frame identity (wordBytes word)) ≤ length (now out) ⌝ }
     ensures { λ r. ⌜ Writes (now (out .entry)) at (line frame identity (wordBytes word)) (Written.To r) (now (out .exit)) ⌝ }
 {
-    let time = Timecode { frame };
-    let label = time.label();
+    let label = Timecode::label_of(frame);
     let a = put_bytes(out, at, &label);
     let b = put_bytes(out, a, b"\t");
-    let c = put_digits(out, b, identity);
+    let c = put_number(out, b, identity);
     put_end(out, c, word)
 }
 
@@ -230,8 +182,7 @@ fn refused_length(identity: u16, n: u8) -> usize
 fn put_refused(out: &mut [u8], frame: u32, identity: u16, n: u8) -> Written
     ensures { λ r. ⌜ Pieces (now (out .entry)) 0 (line frame identity (refusedWord n)) r (now (out .exit)) ⌝ }
 {
-    let time = Timecode { frame };
-    let label = time.label();
+    let label = Timecode::label_of(frame);
     let a = text::write_bytes(out, 0, &label);
     let b = a.then_bytes(out, b"\t");
     let c = b.then_number(out, identity as u64);

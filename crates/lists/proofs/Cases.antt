@@ -1,6 +1,6 @@
 -- Cases on a test and on two numbers, and a choice whose test is known. Assumes nothing.
 use mathlib.Core.Path.{_≡_, refl, sym, _∙_}
-use mathlib.Core.Bool.{Bool, true, false, _&&_, _||_}
+use mathlib.Core.Bool.{Bool, true, false, not, _&&_, _||_}
 use mathlib.Core.List.{List, map}
 use mathlib.Core.Logic.{_⊎_, inl, inr}
 use Prim.Native.Nat.{ℕ, _<_, _≤_}
@@ -28,6 +28,15 @@ clash p q = let z : _≡_ {A = ℕ} 0 1 = cc in omega arith
 pub refuted : (t : Bool) → ¬ (t ≡ true) → t ≡ false
 refuted true h = absurd (h refl)
 refuted false h = refl
+
+-- a test turned round
+pub not-so : (t : Bool) → not t ≡ true → t ≡ false
+not-so true e = sym e
+not-so false e = refl
+
+pub not-some : (t : Bool) → not t ≡ false → t ≡ true
+not-some true e = refl
+not-some false e = sym e
 
 -- a is below b, or not
 pub less : (a b : ℕ) → (a < b) ⊎ (b ≤ a)

@@ -9,13 +9,13 @@ use native.Mathlib.Numerals.{add-one}
 use native.Mathlib.Omega.{arith}
 use lib.ListN.{length, drop, set, getD, length-set, length-map, List·getD-map, drop-of-length-le}
 use lib.Seq.{getD-set-same, getD-set-other, ext-getD}
-use Rattle.lists.specs.Lists.{all}
+use Rattle.lists.specs.Lists.{every}
 use Rattle.lists.proofs.Cases.{equal, less, and-left}
 
 -- ---- each element is tested
 
 module _ {A : Type 0} (p : A → Bool) where
-  next : (l : List A) (i : ℕ) (d : A) → i < length l → all p (drop i l) ≡ (p (getD l i d) && all p (drop (suc i) l))
+  next : (l : List A) (i : ℕ) (d : A) → i < length l → every p (drop i l) ≡ (p (getD l i d) && every p (drop (suc i) l))
   next [] i d h = absurd (not-suc-le-zero h)
   next (x ∷ l) zero d h = refl
   next (x ∷ l) (suc i) d h = next l i d (le-of-suc-le-suc h)
@@ -23,7 +23,7 @@ module _ {A : Type 0} (p : A → Bool) where
 -- the first i pass
 pub record Passed {A : Type 0} (p : A → Bool) (l : List A) (n i : ℕ) : Type 0 where
   pub long : length l ≡ n
-  pub so-far : all p l ≡ all p (drop i l)
+  pub so-far : every p l ≡ every p (drop i l)
 
 module _ {A : Type 0} {p : A → Bool} where
   pub test-begin : {l : List A} {n : ℕ} → length l ≡ n → Passed p l n 0
@@ -31,13 +31,13 @@ module _ {A : Type 0} {p : A → Bool} where
 
   pub test-turn : {l : List A} {n i : ℕ} (d : A) → Passed p l n i → i < n → p (getD l i d) ≡ true → Passed p l n (i + 1)
   test-turn {l} {n} {i} d v h e =
-      record { long = v .long; so-far = v .so-far ∙ next p l i d (rw (v .long) h) ∙ ap (λ (t : Bool). t && all p (drop (suc i) l)) e ∙ rw add-one }
+      record { long = v .long; so-far = v .so-far ∙ next p l i d (rw (v .long) h) ∙ ap (λ (t : Bool). t && every p (drop (suc i) l)) e ∙ rw add-one }
 
-  pub test-fails : {l : List A} {n i : ℕ} (d : A) → Passed p l n i → i < n → p (getD l i d) ≡ false → false ≡ all p l
+  pub test-fails : {l : List A} {n i : ℕ} (d : A) → Passed p l n i → i < n → p (getD l i d) ≡ false → false ≡ every p l
   test-fails {l} {n} {i} d v h e = sym (v .so-far ∙ next p l i d (rw (v .long) h) ∙ and-left _ e)
 
-  pub test-end : {l : List A} {n i : ℕ} → Passed p l n i → n ≤ i → true ≡ all p l
-  test-end {l} {n} {i} v h = let k : length l ≤ i = rw (v .long) h in sym (v .so-far ∙ ap (all p) (drop-of-length-le l k))
+  pub test-end : {l : List A} {n i : ℕ} → Passed p l n i → n ≤ i → true ≡ every p l
+  test-end {l} {n} {i} v h = let k : length l ≤ i = rw (v .long) h in sym (v .so-far ∙ ap (every p) (drop-of-length-le l k))
 
 -- ---- each element is made into another
 

@@ -16,9 +16,9 @@ indexWhere p [] = 0
 indexWhere p (x ∷ l) = choose (p x) 0 (suc (indexWhere p l))
 
 -- every element passes the test
-abbrev pub all : {A : Type 0} → (A → Bool) → List A → Bool
-all p [] = true
-all p (x ∷ l) = p x && all p l
+abbrev pub every : {A : Type 0} → (A → Bool) → List A → Bool
+every p [] = true
+every p (x ∷ l) = p x && every p l
 
 -- some number below n passes the test
 unfoldable pub anyBelow : ℕ → (ℕ → Bool) → Bool
@@ -26,9 +26,9 @@ anyBelow zero p = false
 anyBelow (suc n) p = anyBelow n p || p n
 
 -- how many below n pass the test p
-unfoldable pub count : (ℕ → Bool) → ℕ → ℕ
-count p zero = 0
-count p (suc n) = cond (p n) (suc (count p n)) (count p n)
+unfoldable pub countBelow : (ℕ → Bool) → ℕ → ℕ
+countBelow p zero = 0
+countBelow p (suc n) = cond (p n) (suc (countBelow p n)) (countBelow p n)
 
 -- the two lists are equal
 unfoldable pub same : List ℕ → List ℕ → Bool

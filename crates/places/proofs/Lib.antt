@@ -1,3 +1,4 @@
 pub mod Roles
 pub mod Words
 pub mod Order
+pub mod Canonical

@@ -1,8 +1,8 @@
 -- Roles. Assumes nothing.
 use mathlib.Core.Bool.{Bool, not, _&&_}
 use mathlib.Core.Path.{_≡_, refl}
-use Rattle.server.specs.declared.Role.{Role}
-use Rattle.server.specs.declared.Role.the-variants as role
+use Rattle.roles.specs.declared.Role.{Role}
+use Rattle.roles.specs.declared.Role.the-variants as role
 use Rattle.places.specs.Roles.{takesPart, stillIn}
 
 pub still-by : (r : Role) (b : Bool) → (not (takesPart r) && not b) ≡ stillIn r b

@@ -2,37 +2,23 @@
 use mathlib.Core.Bool.{Bool, true, false, not}
 use mathlib.Core.Path.{_≡_, refl, sym, ap, ap₂, _∙_}
 use mathlib.Core.Logic.{⊎-elim, _≢_}
-use mathlib.Core.List.{List}
+use mathlib.Core.List.{List, [], _∷_, _++_}
 use Prim.Native.Nat.{ℕ, zero, suc, _+_, _*_, _/_, _%_, _<_, _≤_}
 use native.Mathlib.Omega.{arith}
 use borrow.Author.Tests.{eqb-true}
 use lib.Dec.{eqb}
-use lib.ListN.{length, getD, set, length-set}
-use lib.Seq.{getD-set-same, getD-set-other, ext-getD}
+use lib.ListN.{length, take, drop, getD, set, length-set, length-append}
+use lib.Seq.{getD-set-same, getD-set-other, ext-getD, sets-eq, getD-drop, drop-drop, take-at, take-all, take-suc, length-take-le}
 use Rattle.lists.specs.Choice.{choose}
-use Rattle.lists.proofs.Cases.{equal, less, bit-small, bit-back}
-use Rattle.server.specs.declared.Role.{Role}
-use Rattle.server.specs.declared.Role.the-variants.{Down, Idle, Sync, Backup, Prospect, Primary}
+use Rattle.lists.specs.Splice.{splice}
+use Rattle.lists.proofs.Cases.{on, equal, less, bit-small, bit-back}
+use Rattle.roles.specs.declared.Role.{Role}
+use Rattle.roles.specs.declared.Role.the-variants.{Down, Idle, Sync, Backup, Prospect, Primary}
 use Rattle.server.specs.declared.Server.{Server}
-use Rattle.server.specs.Verbs.{roleNumber}
+use Rattle.roles.specs.Roles.{roleNumber}
 use Rattle.server.specs.Server.{absent, setSilence, setBeat, cleared}
-use Rattle.places.specs.Words.{roleOf, sendingNumber, headNumber, serverOf, serverAt, serversFrom, serversOf}
-
--- a test turned round
-pub not-so : (t : Bool) → not t ≡ true → t ≡ false
-not-so true e = sym e
-not-so false e = refl
-
-pub not-some : (t : Bool) → not t ≡ false → t ≡ true
-not-some true e = refl
-not-some false e = sym e
-
--- a server whose numbers fit their fields
-pub record Fits (s : Server) : Type 0 where
-  pub identity : s .identity < 65536
-  pub priority : s .priority < 256
-  pub beats : s .beats < 256
-  pub pass : s .pass < 65536
+use Rattle.places.specs.Words.{roleOf, sendingNumber, headNumber, serverOf, serverAt, serversFrom, serversOf, serverNumbers, wordsOf, putAt, Packs}
+use Rattle.places.specs.Steps.{Fits, Stores}
 
 pub role-back : (r : Role) → roleOf (roleNumber r) ≡ r
 unfolding roleOf choose
@@ -132,6 +118,15 @@ module _ (w : List ℕ) (k a b c d e : ℕ) where
   abbrev pub put5 : List ℕ
   put5 = set put4 (k + 4) e
 
+  -- they are written at the place k
+  pub spliced : k + 4 < length w → put5 ≡ splice w k (a ∷ b ∷ c ∷ d ∷ e ∷ [])
+  spliced h =
+      let e₁ : k + 1 ≡ suc k = omega arith in
+      let e₂ : k + 2 ≡ suc (suc k) = omega arith in
+      let e₃ : k + 3 ≡ suc (suc (suc k)) = omega arith in
+      let e₄ : k + 4 ≡ suc (suc (suc (suc k))) = omega arith in
+      rw (e₁, e₂, e₃, e₄) (sets-eq (a ∷ b ∷ c ∷ d ∷ e ∷ []) w k (omega arith))
+
   pub length5 : length put5 ≡ length w
   length5 =
       length-set put4 (k + 4) e ∙ length-set put3 (k + 3) d ∙ length-set put2 (k + 2) c ∙ length-set put1 (k + 1) b ∙ length-set w k a
@@ -199,7 +194,7 @@ module _ (w : List ℕ) (i : ℕ) (s : Server) (long : length w ≡ 80) (h : i <
       kept m f g =
           other-five w (5 * i) _ _ _ _ _ m (λ z. n (omega arith)) (λ z. n (omega arith)) (λ z. n (omega arith)) (λ z. n (omega arith)) (λ z. n (omega arith))
 
-  pub store-is : serversOf stored ≡ set (serversOf w) i s
+  store-is : serversOf stored ≡ set (serversOf w) i s
   store-is =
       ext-getD absent (serversOf stored) (set (serversOf w) i s) (long-of stored ∙ sym (length-set (serversOf w) i s ∙ long-of w))
       (λ j g.
@@ -209,6 +204,15 @@ module _ (w : List ℕ) (i : ℕ) (s : Server) (long : length w ≡ 80) (h : i <
       (λ e. rw e (stored-here ∙ sym (getD-set-same (serversOf w) i s absent (omega (arith, long-of w)))))
       (λ e. stored-there j e ∙ sym (getD-set-other (serversOf w) i j s absent e ∙ at-of w j absent (omega arith)))
       (equal j i))
+
+  put-stored : putAt w i s ≡ stored
+  put-stored = sym (spliced w (5 * i) _ _ _ _ _ (omega arith))
+
+  pub put-long : length (putAt w i s) ≡ length w
+  put-long = ap length put-stored ∙ length5 w (5 * i) _ _ _ _ _
+
+  pub put-servers : serversOf (putAt w i s) ≡ set (serversOf w) i s
+  put-servers = ap serversOf put-stored ∙ store-is
 
 -- ---- one number of a server stored
 
@@ -309,3 +313,78 @@ alike-turn {m} {l} {i} {s} v h e =
 
 pub alike-end : {m l : List Server} {i : ℕ} → Alike m l i → 16 ≤ i → m ≡ l
 alike-end {m} {l} {i} v h = ext-getD absent m l (v .room ∙ sym (v .long)) (λ k g. v .same k (omega (arith, v .room)))
+
+-- ---- the numbers of servers
+
+pub long-words : (l : List Server) → length (wordsOf l) ≡ 5 * length l
+unfolding wordsOf
+long-words [] = refl
+long-words (s ∷ l) = let e = long-words l in omega arith
+
+pub words-append : (l m : List Server) → wordsOf (l ++ m) ≡ wordsOf l ++ wordsOf m
+unfolding wordsOf
+words-append [] m = refl
+words-append (s ∷ l) m = ap (λ (w : List ℕ). serverNumbers s ++ w) (words-append l m)
+
+-- the servers of numbers that go on with those of l
+servers-from :
+    (n k : ℕ) (w : List ℕ) (l : List Server) → length l ≡ n → drop (5 * k) w ≡ wordsOf l → ((i : ℕ) → i < n → Fits (getD l i absent)) →
+    serversFrom n k w ≡ l
+unfolding serversFrom wordsOf
+servers-from zero k w [] e d f = refl
+servers-from zero k w (s ∷ l) e d f = absurd (omega arith)
+servers-from (suc n) k w [] e d f = absurd (omega arith)
+servers-from (suc n) k w (s ∷ l) e d f =
+    ap₂ (λ (x : Server) (y : List Server). x ∷ y)
+    (rw (ap (λ (m : ℕ). getD w m 0) (let z : 5 * k ≡ 5 * k + 0 = omega arith in z) ∙ at 0, at 1, at 2, at 3, at 4) (server-back s (f 0 (omega arith))))
+    (servers-from n (suc k) w l (omega arith) rest (λ i h. f (suc i) (omega arith)))
+  where
+    at : (j : ℕ) → getD w (5 * k + j) 0 ≡ getD (serverNumbers s ++ wordsOf l) j 0
+    at j = sym (getD-drop (5 * k) w j 0) ∙ ap (λ (x : List ℕ). getD x j 0) d
+
+    rest : drop (5 * suc k) w ≡ wordsOf l
+    rest = ap (λ (m : ℕ). drop m w) (let z : 5 * suc k ≡ 5 * k + 5 = omega arith in z) ∙ sym (drop-drop 5 (5 * k) w) ∙ ap (λ (x : List ℕ). drop 5 x) d
+
+pub servers-back : (l : List Server) → length l ≡ 16 → ((i : ℕ) → i < 16 → Fits (getD l i absent)) → serversOf (wordsOf l) ≡ l
+servers-back l e f = servers-from 16 0 (wordsOf l) l e refl f
+
+-- the first i servers of l are stored in w
+pub record Stored (l : List Server) (w : List ℕ) (i : ℕ) : Type 0 where
+  pub room : length w ≡ 80
+  pub long : length l ≡ 16
+  pub numbers : take (5 * i) w ≡ wordsOf (take i l)
+  pub fits : (k : ℕ) → k < i → Fits (getD l k absent)
+
+pub stored-begin : {l : List Server} {w : List ℕ} → length w ≡ 80 → length l ≡ 16 → Stored l w 0
+unfolding wordsOf
+stored-begin e f = record { room = e; long = f; numbers = refl; fits = λ k h. absurd (omega arith) }
+
+pub stored-turn : {l : List Server} {w w′ : List ℕ} {i : ℕ} {s : Server} → Stored l w i → i < 16 → s ≡ getD l i absent → Stores w i s w′ → Stored l w′ (i + 1)
+unfolding wordsOf
+stored-turn {l} {w} {w′} {i} {s} v h e p =
+    let room = v .room in
+    let long = v .long in
+    record {
+      room = ap length (p .numbers) ∙ put-long w i s room h (p .fits) ∙ room;
+      long = long;
+      numbers =
+          ap (take (5 * (i + 1))) (p .numbers) ∙ first ∙ ap (λ (x : List ℕ). x ++ serverNumbers s) (v .numbers) ∙ sym last;
+      fits = λ k g. on (less k i) (λ q. v .fits k q) (λ q. let z : k ≡ i = omega arith in rw (z, ← e) (p .fits));
+    }
+  where
+    first : take (5 * (i + 1)) (putAt w i s) ≡ take (5 * i) w ++ serverNumbers s
+    first =
+        take-at (take (5 * i) w ++ serverNumbers s) (drop (5 * i + 5) w) (5 * (i + 1))
+        (length-append (take (5 * i) w) (serverNumbers s) ∙ ap (λ (m : ℕ). m + 5) (length-take-le (5 * i) w (omega (arith, v .room))) ∙ (let z : 5 * i + 5 ≡ 5 * (i + 1) = omega arith in z))
+
+    last : wordsOf (take (i + 1) l) ≡ wordsOf (take i l) ++ serverNumbers s
+    last =
+        ap (λ (m : ℕ). wordsOf (take m l)) (let z : i + 1 ≡ suc i = omega arith in z) ∙ ap wordsOf (take-suc l i absent (omega (arith, v .long)))
+        ∙ words-append (take i l) (getD l i absent ∷ []) ∙ ap (λ (x : Server). wordsOf (take i l) ++ serverNumbers x) (sym e)
+
+pub stored-end : {l : List Server} {w : List ℕ} {i : ℕ} → Stored l w i → 16 ≤ i → Packs l w
+stored-end {l} {w} {i} v h =
+    let room = v .room in
+    let long = v .long in
+    let is : w ≡ wordsOf l = sym (take-all (5 * i) w (omega arith)) ∙ v .numbers ∙ ap wordsOf (take-all i l (omega arith)) in
+    record { numbers = is; servers = ap serversOf is ∙ servers-back l long (λ k g. v .fits k (omega arith)) }

@@ -1,7 +1,7 @@
 -- Which role a server is in; who hears and has a timer, and who is still.
 use mathlib.Core.Bool.{Bool, true, false, not}
-use Rattle.server.specs.declared.Role.{Role}
-use Rattle.server.specs.declared.Role.the-variants.{Down, Idle, Sync, Backup, Prospect, Primary}
+use Rattle.roles.specs.declared.Role.{Role}
+use Rattle.roles.specs.declared.Role.the-variants.{Down, Idle, Sync, Backup, Prospect, Primary}
 use Rattle.server.specs.declared.Server.{Server}
 use Rattle.server.specs.Server.{sentAny}
 

@@ -1,17 +1,20 @@
 // Servers at their places, as numbers: which place hears which, and which comes first.
+use group::Links;
+use group::Servers;
 use group::Table;
-use server::Role;
+use roles::Role;
 use server::Server;
 ghost use mathlib.Core.Path.{_≡_};
 ghost use mathlib.Core.Bool.{Bool};
 ghost use Prim.Native.Nat.{_<_};
-ghost use lib.ListN.{length, getD, set};
+ghost use lib.ListN.{length, getD};
 ghost use Rattle.lists.specs.Choice.{choose};
 ghost use Rattle.server.specs.Server.{absent};
-ghost use Rattle.group.specs.Table.{placeIn};
+ghost use Rattle.group.specs.Table.{placeIn, most};
 ghost use Rattle.group.specs.Hearing.{isPlace};
 ghost use Rattle.places.specs.Roles.{isBackup, isProspect, isPrimary, takesPart, isStill};
-ghost use Rattle.places.specs.Words.{roleOf, rankNumber, sendingNumber, serverOf, serversOf};
+ghost use Rattle.places.specs.Words.{roleOf, rankNumber, sendingNumber, serverOf, serversOf, Packs, Puts, packed};
+ghost use Rattle.places.specs.Steps.{Stores};
 ghost use Rattle.places.specs.Order.{overBy, comesBy, betterOf, hearsAt};
 
 // ---- roles
@@ -79,6 +82,36 @@ pub fn is_still(s: Server) -> bool
 
 // ---- servers as numbers
 
+// Numbers for each server: its head, which is its role and its rank, its three timers, and what it sent in this frame.
+pub const EACH: usize = 5;
+
+// Where they stand among the numbers of their server; the head comes first.
+pub const SILENCE: usize = 1;
+
+pub const BEAT: usize = 2;
+
+pub const PROSPECT: usize = 3;
+
+pub const SENDING: usize = 4;
+
+// The numbers of all servers.
+pub const PACKED: usize = EACH * Table::SERVERS;
+
+pub type Packed = [u32; PACKED];
+
+// So many values a byte has.
+const BYTE: u32 = 256;
+
+// In a rank, and in a head: the identity, then the priority, then the role, each counted by these.
+pub const PRIORITY: u32 = 65536;
+
+const ROLE: u32 = BYTE * PRIORITY;
+
+// In what was sent: the identity passed to, then whether there was a reveal, then the plain beats.
+pub const REVEAL: u32 = 65536;
+
+pub const BEATS: u32 = 2 * REVEAL;
+
 // The role of a number; from 5 on, primary.
 pub fn role_of(n: u32) -> Role
     ensures { λ r. ⌜ r ≡ roleOf n ⌝ }
@@ -97,74 +130,74 @@ pub fn role_of(n: u32) -> Role
 pub fn rank_number(s: Server) -> u32
     ensures { λ r. ⌜ (r ≡ rankNumber s) × ((s .identity < 65536) × (s .priority < 256)) ⌝ }
 {
-    (s.priority as u32) * 65536 + (s.identity as u32)
+    (s.priority as u32) * PRIORITY + (s.identity as u32)
 }
 
-fn flag(set: bool) -> u32
-    ensures { λ r. ⌜ r ≡ choose set 1 0 ⌝ }
+fn flag(is: bool) -> u32
+    ensures { λ r. ⌜ r ≡ choose is 1 0 ⌝ }
 {
-    if set { 1 } else { 0 }
+    if is { 1 } else { 0 }
 }
 
 // 0 where nothing was sent.
 pub fn sending_number(s: Server) -> u32
     ensures { λ r. ⌜ (r ≡ sendingNumber s) × ((s .beats < 256) × (s .pass < 65536)) ⌝ }
 {
-    ((s.beats as u32) * 2 + flag(s.reveal)) * 65536 + (s.pass as u32)
+    ((s.beats as u32) * 2 + flag(s.reveal)) * REVEAL + (s.pass as u32)
 }
 
 fn server_of(head: u32, silence: u32, beat: u32, prospect: u32, sending: u32) -> Server
     ensures { λ r. ⌜ r ≡ serverOf head silence beat prospect sending ⌝ }
 {
     Server {
-        identity: (head % 65536) as u16,
-        priority: (head / 65536 % 256) as u8,
-        role: role_of(head / 16777216),
+        identity: (head % PRIORITY) as u16,
+        priority: (head / PRIORITY % BYTE) as u8,
+        role: role_of(head / ROLE),
         silence,
         beat,
         prospect,
-        beats: (sending / 131072 % 256) as u8,
-        reveal: sending / 65536 % 2 == 1,
-        pass: (sending % 65536) as u16,
+        beats: (sending / BEATS % BYTE) as u8,
+        reveal: sending / REVEAL % 2 == 1,
+        pass: (sending % REVEAL) as u16,
     }
 }
 
 // The server of place i.
-fn server_at(words: &[u32; 80], i: usize) -> Server
-    requires { ⌜ i < 16 ⌝ }
+fn server_at(words: &Packed, i: usize) -> Server
+    requires { ⌜ i < most ⌝ }
     ensures { λ r. ⌜ r ≡ getD (serversOf (now (words .entry))) i absent ⌝ }
 {
-    let k = 5 * i;
+    let k = EACH * i;
     server_of(
         words[k],
-        words[k + 1],
-        words[k + 2],
-        words[k + 3],
-        words[k + 4],
+        words[k + SILENCE],
+        words[k + BEAT],
+        words[k + PROSPECT],
+        words[k + SENDING],
     )
 }
 
 // The server of place i replaced.
-fn store(words: &mut [u32; 80], i: usize, s: Server)
-    requires { ⌜ (length (now words) ≡ 80) × (i < 16) ⌝ }
-    ensures { λ _. ⌜ (length (now (words .exit)) ≡ 80) × (serversOf (now (words .exit)) ≡ set (serversOf (now (words .entry))) i s) ⌝ }
+fn store(words: &mut Packed, i: usize, s: Server)
+    requires { ⌜ (length (now words) ≡ packed) × (i < most) ⌝ }
+    ensures { λ _. ⌜ Stores (now (words .entry)) i s (now (words .exit)) ⌝ }
 {
-    let k = 5 * i;
+    let k = EACH * i;
     let role = s.role;
-    let head = server::role_number(role) * 16777216 + rank_number(s);
+    let head = roles::role_number(role) * ROLE + rank_number(s);
     let sending = sending_number(s);
     words[k] = head;
-    words[k + 1] = s.silence;
-    words[k + 2] = s.beat;
-    words[k + 3] = s.prospect;
-    words[k + 4] = sending;
+    words[k + SILENCE] = s.silence;
+    words[k + BEAT] = s.beat;
+    words[k + PROSPECT] = s.prospect;
+    words[k + SENDING] = sending;
 }
 
 // The servers as numbers.
-pub fn words_of(servers: [Server; 16]) -> [u32; 80]
-    ensures { λ r. ⌜ serversOf r ≡ servers ⌝ }
+pub fn words_of(servers: Servers) -> Packed
+    ensures { λ r. ⌜ Packs servers r ⌝ }
 {
-    let mut words: [u32; 80] = [0; 80];
+    let mut words: Packed = [0; PACKED];
     let mut i: usize = 0;
     while i < Table::SERVERS {
         store(&mut words, i, servers[i]);
@@ -174,11 +207,11 @@ pub fn words_of(servers: [Server; 16]) -> [u32; 80]
 }
 
 // The servers of the numbers.
-pub fn servers_of(words: &[u32; 80]) -> [Server; 16]
+pub fn servers_of(words: &Packed) -> Servers
     ensures { λ r. ⌜ r ≡ serversOf (now (words .entry)) ⌝ }
 {
     let nobody = Server::absent();
-    let mut servers = [nobody; 16];
+    let mut servers = [nobody; Table::SERVERS];
     let mut i: usize = 0;
     while i < Table::SERVERS {
         let s = server_at(words, i);
@@ -189,7 +222,7 @@ pub fn servers_of(words: &[u32; 80]) -> [Server; 16]
 }
 
 // The server of place i; nobody beyond the last place.
-pub fn server(words: &[u32; 80], i: usize) -> Server
+pub fn server(words: &Packed, i: usize) -> Server
     ensures { λ r. ⌜ r ≡ getD (serversOf (now (words .entry))) i absent ⌝ }
 {
     if i < Table::SERVERS {
@@ -200,9 +233,9 @@ pub fn server(words: &[u32; 80], i: usize) -> Server
 }
 
 // The server of place i replaced; nothing beyond the last place. `held` is what the numbers are: passed by value, it has their length.
-fn put_held(words: &mut [u32; 80], held: [u32; 80], i: usize, s: Server)
+fn put_held(words: &mut Packed, held: Packed, i: usize, s: Server)
     requires { ⌜ now words ≡ held ⌝ }
-    ensures { λ _. ⌜ (length (now (words .exit)) ≡ length (now (words .entry))) × (serversOf (now (words .exit)) ≡ set (serversOf (now (words .entry))) i s) ⌝ }
+    ensures { λ _. ⌜ Puts (now (words .entry)) i s (now (words .exit)) ⌝ }
 {
     if i < Table::SERVERS {
         store(words, i, s);
@@ -210,21 +243,21 @@ fn put_held(words: &mut [u32; 80], held: [u32; 80], i: usize, s: Server)
 }
 
 // The server of place i replaced; nothing beyond the last place.
-pub fn put(words: &mut [u32; 80], i: usize, s: Server)
-    ensures { λ _. ⌜ (length (now (words .exit)) ≡ length (now (words .entry))) × (serversOf (now (words .exit)) ≡ set (serversOf (now (words .entry))) i s) ⌝ }
+pub fn put(words: &mut Packed, i: usize, s: Server)
+    ensures { λ _. ⌜ Puts (now (words .entry)) i s (now (words .exit)) ⌝ }
 {
     let held = *words;
     put_held(words, held, i, s);
 }
 
-// The place of an identity; beyond the last place where there is none. Of 0 the first empty place.
-pub fn place_in(words: &[u32; 80], identity: u16) -> usize
+// The place of an identity; beyond the last place where there is none, as there is none of 0.
+pub fn place_in(words: &Packed, identity: u16) -> usize
     ensures { λ r. ⌜ r ≡ placeIn (serversOf (now (words .entry))) identity ⌝ }
 {
     let mut i: usize = 0;
     while i < Table::SERVERS {
         let s = server_at(words, i);
-        if s.identity == identity {
+        if group::named(identity, s) {
             return i;
         }
         i += 1;
@@ -235,7 +268,7 @@ pub fn place_in(words: &[u32; 80], identity: u16) -> usize
 // ---- who hears whom, and who comes first
 
 // Whether place j would hear what place i sends: another place, with a whole link.
-pub fn hears(whole: &[bool; 256], i: usize, j: usize) -> bool
+pub fn hears(whole: &Links, i: usize, j: usize) -> bool
     ensures { λ r. ⌜ r ≡ hearsAt (now (whole .entry)) j i ⌝ }
 {
     if (i < Table::SERVERS) & (j < Table::SERVERS) {
@@ -246,8 +279,8 @@ pub fn hears(whole: &[bool; 256], i: usize, j: usize) -> bool
 }
 
 // Place i comes after the place last; so it does where there is none (16 or more).
-fn under_last(ranks: &[u32; 16], last: usize, i: usize) -> bool
-    requires { ⌜ i < 16 ⌝ }
+fn under_last(ranks: &[u32; Table::SERVERS], last: usize, i: usize) -> bool
+    requires { ⌜ i < most ⌝ }
     ensures { λ r. ⌜ r ≡ choose (isPlace last) (overBy (now (ranks .entry)) last i) Bool.true ⌝ }
 {
     if last < Table::SERVERS {
@@ -258,8 +291,8 @@ fn under_last(ranks: &[u32; 16], last: usize, i: usize) -> bool
 }
 
 // Place i comes before the best so far; so it does where there is none (16 or more).
-fn over_best(ranks: &[u32; 16], best: usize, i: usize) -> bool
-    requires { ⌜ i < 16 ⌝ }
+fn over_best(ranks: &[u32; Table::SERVERS], best: usize, i: usize) -> bool
+    requires { ⌜ i < most ⌝ }
     ensures { λ r. ⌜ r ≡ choose (isPlace best) (overBy (now (ranks .entry)) i best) Bool.true ⌝ }
 {
     if best < Table::SERVERS {
@@ -269,8 +302,8 @@ fn over_best(ranks: &[u32; 16], best: usize, i: usize) -> bool
     }
 }
 
-fn better_of(ranks: &[u32; 16], last: usize, best: usize, i: usize) -> usize
-    requires { ⌜ i < 16 ⌝ }
+fn better_of(ranks: &[u32; Table::SERVERS], last: usize, best: usize, i: usize) -> usize
+    requires { ⌜ i < most ⌝ }
     ensures { λ r. ⌜ r ≡ choose (comesBy (now (ranks .entry)) Bool.true last best i) i best ⌝ }
 {
     if under_last(ranks, last, i) & over_best(ranks, best, i) {
@@ -281,7 +314,7 @@ fn better_of(ranks: &[u32; 16], last: usize, best: usize, i: usize) -> usize
 }
 
 // Of place i, which is heard, and the best so far: the one that is heard sooner after the place last. Where i is no place (16 or more), the best so far.
-pub fn better(ranks: &[u32; 16], last: usize, best: usize, i: usize) -> usize
+pub fn better(ranks: &[u32; Table::SERVERS], last: usize, best: usize, i: usize) -> usize
     ensures { λ r. ⌜ r ≡ betterOf (now (ranks .entry)) last best i ⌝ }
 {
     if i < Table::SERVERS {

@@ -3,13 +3,15 @@ use mathlib.Core.Bool.{Bool, true, _&&_}
 use mathlib.Core.Path.{_≡_, refl, ap, ap₂, _∙_}
 use mathlib.Core.List.{List}
 use Prim.Native.Nat.{ℕ}
-use Rattle.lists.specs.Lists.{all}
+use Rattle.lists.specs.Lists.{every}
 use Rattle.lists.proofs.Cases.{chosen, fst-true, snd-true, and-true}
-use Rattle.server.specs.declared.Period.{Period}
+use Rattle.periods.specs.declared.Period.{Period}
 use Rattle.server.specs.declared.Server.{Server}
 use Rattle.front.specs.declared.Front.{Front}
 use Rattle.group.specs.declared.Table.{Table}
 use Rattle.group.specs.declared.State.{State}
+use Rattle.group.specs.Table as group
+use Rattle.group.specs.Table.{tableWith}
 use Rattle.places.proofs.Words.{role-back}
 use Rattle.plain.specs.declared.PlainServer.{PlainServer}
 use Rattle.plain.specs.declared.PlainFront.{PlainFront}
@@ -41,8 +43,14 @@ server-same s = rw (role-back (s .role), bit-same (s .reveal))
 front-back : (f : Front) → isPeriod (f .period .frames) ≡ true → Back isFront frontOf plainFront f
 front-back f e = record { decodes = and-true (server-decodes (f .server)) e; same = ap₂ (λ (s : Server) (q : Period). record { server = s; frame = f .frame; period = q }) (server-same (f .server)) (period-same (f .period) e) }
 
-table-back : (t : Table) → Back isTable tableOf plainTable t
-table-back t = record { decodes = list-decodes isServer plainServer server-decodes (t .servers); same = ap (λ (l : List Server). record { servers = l }) (list-same serverOf plainServer server-same (t .servers)) }
+table-back : (t : Table) → group.isTable (t .servers) ≡ true → Back isTable tableOf plainTable t
+unfolding tableWith
+table-back t e =
+    let same = list-same serverOf plainServer server-same (t .servers) in
+    record {
+      decodes = and-true (list-decodes isServer plainServer server-decodes (t .servers)) (ap group.isTable same ∙ e);
+      same = ap tableWith same ∙ chosen _ e;
+    }
 
 channel-back : (c : State) → isPeriod (c .period .frames) ≡ true → Back isChannel channelOf plainChannel c
 channel-back c e =
@@ -65,16 +73,20 @@ front-faithful p e =
     (period-faithful (p .period) (snd-true (isServer (p .server)) (isPeriod (p .period)) e))
 
 pub table-faithful : (p : PlainTable) → isTable p ≡ true → plainTable (tableOf p) ≡ p
-table-faithful p e = ap (λ (l : List PlainServer). record { servers = l }) (list-faithful isServer serverOf plainServer server-faithful (p .servers) e)
+unfolding tableWith
+table-faithful p e =
+    let good = snd-true (every isServer (p .servers)) _ e in
+    ap plainTable (chosen _ good)
+    ∙ ap (λ (l : List PlainServer). record { servers = l }) (list-faithful isServer serverOf plainServer server-faithful (p .servers) (fst-true (every isServer (p .servers)) _ e))
 
 pub channel-faithful : (p : PlainChannel) → isChannel p ≡ true → plainChannel (channelOf p) ≡ p
 channel-faithful p e =
-    let rest = snd-true (isPeriod (p .period)) (all isServer (p .servers) && all isBit (p .whole)) e in
+    let rest = snd-true (isPeriod (p .period)) (every isServer (p .servers) && every isBit (p .whole)) e in
     ap₂ (λ (n : ℕ) (l : List PlainServer). record { frame = p .frame; period = n; servers = l; whole = plainChannel (channelOf p) .whole })
-    (period-faithful (p .period) (fst-true (isPeriod (p .period)) (all isServer (p .servers) && all isBit (p .whole)) e))
-    (list-faithful isServer serverOf plainServer server-faithful (p .servers) (fst-true (all isServer (p .servers)) (all isBit (p .whole)) rest))
+    (period-faithful (p .period) (fst-true (isPeriod (p .period)) (every isServer (p .servers) && every isBit (p .whole)) e))
+    (list-faithful isServer serverOf plainServer server-faithful (p .servers) (fst-true (every isServer (p .servers)) (every isBit (p .whole)) rest))
     ∙ ap (λ (w : List ℕ). record { frame = p .frame; period = p .period; servers = p .servers; whole = w })
-    (list-faithful isBit bitOf plainBit bit-faithful (p .whole) (snd-true (all isServer (p .servers)) (all isBit (p .whole)) rest))
+    (list-faithful isBit bitOf plainBit bit-faithful (p .whole) (snd-true (every isServer (p .servers)) (every isBit (p .whole)) rest))
 
 pub laws : Laws
 laws =

@@ -6,8 +6,8 @@ use Rattle.lists.proofs.Cases.{chosen, other}
 use Rattle.refusal.specs.declared.Refusal.{Refusal}
 use Rattle.refusal.specs.Answer.{accepted, refused, numberOf}
 use Rattle.refusal.proofs.Answers.{took, declined}
-use Rattle.server.specs.declared.Period.{Period}
-use Rattle.server.specs.Period.{takePeriod, shortest}
+use Rattle.periods.specs.declared.Period.{Period}
+use Rattle.periods.specs.Period.{takePeriod, shortest}
 use Rattle.plain.specs.Numbers.{isPeriod, periodOf}
 
 pub period-made : (n : ℕ) (q : Period) → accepted (q .frames ∷ []) ≡ takePeriod n → q ≡ periodOf n

@@ -7,18 +7,19 @@ use native.Mathlib.Omega.{arith}
 use borrow.Author.Tests.{leb-true, eqb-true}
 use lib.Dec.{leb, eqb}
 use Rattle.lists.specs.Choice.{choose}
-use Rattle.lists.specs.Lists.{all, anyBelow}
+use Rattle.lists.specs.Lists.{every, anyBelow}
 use Rattle.lists.proofs.Cases.{fst-true, snd-true, and-true}
 use Rattle.refusal.specs.declared.Refusal.{Refusal}
 use Rattle.refusal.specs.declared.Refusal.the-variants.{Form, Number, Timecode, Place, Taken, Servers, Period, Identity, Short, Past, Down, Up, Role, Link, DayOver}
 use Rattle.refusal.specs.Answer.{numberOf}
-use Rattle.server.specs.declared.Role as role
-use Rattle.server.specs.declared.Role.the-variants as roles
-use Rattle.server.specs.declared.Verb.{Verb}
-use Rattle.server.specs.declared.Verb.the-variants.{Start, Ready, Unready, Pass, Crash, Restart, Cut, Mend}
-use Rattle.server.specs.declared.Event.{Event}
-use Rattle.server.specs.declared.Event.the-variants.{Nothing, ToBackup, ToProspectBeat, ToProspectReveal, Lower, Beat, ToPrimary, ToSync, ToIdle, ToDown, Passed}
-use Rattle.server.specs.Verbs.{roleNumber, verbNumber}
+use Rattle.roles.specs.declared.Role as role
+use Rattle.roles.specs.declared.Role.the-variants as roles
+use Rattle.roles.specs.declared.Verb.{Verb}
+use Rattle.roles.specs.declared.Verb.the-variants.{Start, Ready, Unready, Pass, Crash, Restart, Cut, Mend}
+use Rattle.roles.specs.declared.Event.{Event}
+use Rattle.roles.specs.declared.Event.the-variants.{Nothing, ToBackup, ToProspectBeat, ToProspectReveal, Lower, Beat, ToPrimary, ToSync, ToIdle, ToDown, Passed}
+use Rattle.roles.specs.Roles.{roleNumber}
+use Rattle.roles.specs.Verbs.{verbNumber}
 use Rattle.places.specs.Words.{roleOf}
 use Rattle.plain.specs.Numbers.{isBit, isRole, isVerb, verbOf, isEvent, eventNumber, eventTo, eventOf, isRefusal, refusalOf}
 use Rattle.plain.specs.Plain.{bitOf, plainBit}
@@ -27,7 +28,7 @@ use Rattle.lists.proofs.AnyLoop.{none-below}
 
 -- ---- lists
 
-pub list-decodes : {A P : Type 0} (is : P → Bool) (plain : A → P) → ((x : A) → is (plain x) ≡ true) → (l : List A) → all is (map plain l) ≡ true
+pub list-decodes : {A P : Type 0} (is : P → Bool) (plain : A → P) → ((x : A) → is (plain x) ≡ true) → (l : List A) → every is (map plain l) ≡ true
 list-decodes is plain d [] = refl
 list-decodes is plain d (x ∷ l) = and-true (d x) (list-decodes is plain d l)
 
@@ -35,10 +36,10 @@ pub list-same : {A P : Type 0} (of : P → A) (plain : A → P) → ((x : A) →
 list-same {A} of plain s [] = refl
 list-same {A} of plain s (x ∷ l) = ap₂ (λ (y : A) (t : List A). y ∷ t) (s x) (list-same of plain s l)
 
-pub list-faithful : {A P : Type 0} (is : P → Bool) (of : P → A) (plain : A → P) → ((p : P) → is p ≡ true → plain (of p) ≡ p) → (l : List P) → all is l ≡ true → map plain (map of l) ≡ l
+pub list-faithful : {A P : Type 0} (is : P → Bool) (of : P → A) (plain : A → P) → ((p : P) → is p ≡ true → plain (of p) ≡ p) → (l : List P) → every is l ≡ true → map plain (map of l) ≡ l
 list-faithful {A} {P} is of plain f [] e = refl
 list-faithful {A} {P} is of plain f (p ∷ l) e =
-    ap₂ (λ (y : P) (t : List P). y ∷ t) (f p (fst-true (is p) (all is l) e)) (list-faithful is of plain f l (snd-true (is p) (all is l) e))
+    ap₂ (λ (y : P) (t : List P). y ∷ t) (f p (fst-true (is p) (every is l) e)) (list-faithful is of plain f l (snd-true (is p) (every is l) e))
 
 -- ---- numbers that decode: each is computed
 

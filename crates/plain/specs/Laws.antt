@@ -6,13 +6,14 @@ use Rattle.refusal.specs.declared.Refusal.{Refusal}
 use Rattle.refusal.specs.Answer.{numberOf}
 use Rattle.heartbeat.specs.declared.Heartbeat.{Heartbeat}
 use Rattle.heartbeat.specs.Heartbeat.{writable}
-use Rattle.server.specs.declared.Verb.{Verb}
-use Rattle.server.specs.declared.Event.{Event}
+use Rattle.roles.specs.declared.Verb.{Verb}
+use Rattle.roles.specs.declared.Event.{Event}
 use Rattle.server.specs.declared.Server.{Server}
-use Rattle.server.specs.Verbs.{verbNumber}
+use Rattle.roles.specs.Verbs.{verbNumber}
 use Rattle.front.specs.declared.Front.{Front}
 use Rattle.group.specs.declared.Table.{Table}
 use Rattle.group.specs.declared.State.{State}
+use Rattle.group.specs.Table as group
 use Rattle.plain.specs.declared.PlainServer.{PlainServer}
 use Rattle.plain.specs.declared.PlainFront.{PlainFront}
 use Rattle.plain.specs.declared.PlainHeartbeat.{PlainHeartbeat}
@@ -26,12 +27,12 @@ pub record Back {A P : Type 0} (is : P → Bool) (of : P → A) (plain : A → P
   pub decodes : is (plain x) ≡ true
   pub same : of (plain x) ≡ x
 
--- of every value; of fronts and channels those whose period is in its range, as every `Period` is that can be made; of heartbeats those that a line can have
+-- of every value; of tables those that adding makes; of fronts and channels those whose period is in its range, as every `Period` is that can be made; of heartbeats those that a line can have
 pub record RoundTrips : Type 0 where
   pub server : (s : Server) → Back isServer serverOf plainServer s
   pub front : (f : Front) → isPeriod (f .period .frames) ≡ true → Back isFront frontOf plainFront f
   pub heartbeat : (h : Heartbeat) → writable h ≡ true → Back isHeartbeat heartbeatOf plainHeartbeat h
-  pub table : (t : Table) → Back isTable tableOf plainTable t
+  pub table : (t : Table) → group.isTable (t .servers) ≡ true → Back isTable tableOf plainTable t
   pub channel : (c : State) → isPeriod (c .period .frames) ≡ true → Back isChannel channelOf plainChannel c
   pub event : (e : Event) → Back isEvent (λ n. eventOf n (eventTo e)) eventNumber e
   pub verb : (v : Verb) → Back isVerb verbOf verbNumber v

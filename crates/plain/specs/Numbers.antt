@@ -5,12 +5,12 @@ use lib.Dec.{leb, eqb}
 use Rattle.lists.specs.Choice.{choose}
 use Rattle.refusal.specs.declared.Refusal.{Refusal}
 use Rattle.refusal.specs.declared.Refusal.the-variants.{Form, Number, Timecode, Place, Taken, Servers, Period, Identity, Short, Past, Down, Up, Role, Link, DayOver}
-use Rattle.server.specs.declared.Verb.{Verb}
-use Rattle.server.specs.declared.Verb.the-variants.{Start, Ready, Unready, Pass, Crash, Restart, Cut, Mend}
-use Rattle.server.specs.declared.Event.{Event}
-use Rattle.server.specs.declared.Event.the-variants.{Nothing, ToBackup, ToProspectBeat, ToProspectReveal, Lower, Beat, ToPrimary, ToSync, ToIdle, ToDown, Passed}
-use Rattle.server.specs.declared.Period as period
-use Rattle.server.specs.Period.{leastPeriod, greatestPeriod, shortest}
+use Rattle.roles.specs.declared.Verb.{Verb}
+use Rattle.roles.specs.declared.Verb.the-variants.{Start, Ready, Unready, Pass, Crash, Restart, Cut, Mend}
+use Rattle.roles.specs.declared.Event.{Event}
+use Rattle.roles.specs.declared.Event.the-variants.{Nothing, ToBackup, ToProspectBeat, ToProspectReveal, Lower, Beat, ToPrimary, ToSync, ToIdle, ToDown, Passed}
+use Rattle.periods.specs.declared.Period as period
+use Rattle.periods.specs.Period.{leastPeriod, greatestPeriod, shortest}
 
 -- a truth as a number: 1 or 0
 abbrev pub isBit : ℕ → Bool

@@ -5,14 +5,16 @@ use Prim.Native.Nat.{ℕ}
 use lib.Dec.{eqb}
 use lib.ListN.{replicate}
 use Rattle.lists.specs.Choice.{choose}
-use Rattle.lists.specs.Lists.{all}
+use Rattle.lists.specs.Lists.{every}
 use Rattle.heartbeat.specs.declared.Heartbeat.{Heartbeat}
 use Rattle.heartbeat.specs.Heartbeat.{writable}
 use Rattle.server.specs.declared.Server.{Server}
-use Rattle.server.specs.Verbs.{roleNumber}
+use Rattle.roles.specs.Roles.{roleNumber}
 use Rattle.front.specs.declared.Front.{Front}
 use Rattle.group.specs.declared.Table.{Table}
 use Rattle.group.specs.declared.State.{State}
+use Rattle.group.specs.Table as group
+use Rattle.group.specs.Table.{tableWith}
 use Rattle.places.specs.Words.{roleOf}
 use Rattle.plain.specs.declared.PlainServer.{PlainServer}
 use Rattle.plain.specs.declared.PlainFront.{PlainFront}
@@ -29,7 +31,7 @@ bitOf n = eqb n 1
 abbrev pub plainBit : Bool → ℕ
 plainBit t = choose t 1 0
 
--- What decodes is a value of the engine, not always one that calls reach: a server of identity 0, a frame beyond the day, a table with a primary in it. Document 01 leaves
+-- What decodes is a value of the engine, not always one that calls reach: a server of identity 0, a frame beyond the day. Document 01 leaves
 -- such values free; they get the answers of the same definitions
 
 -- ---- a server
@@ -99,11 +101,12 @@ noHeartbeat = record { bs = 0; tiebreaker = 0; priority = 0; reveal = 0 }
 
 -- ---- a table
 
+-- a table that adding makes, and no other
 abbrev pub isTable : PlainTable → Bool
-isTable p = all isServer (p .servers)
+isTable p = every isServer (p .servers) && group.isTable (map serverOf (p .servers))
 
 abbrev pub tableOf : PlainTable → Table
-tableOf p = record { servers = map serverOf (p .servers) }
+tableOf p = tableWith (map serverOf (p .servers))
 
 abbrev pub plainTable : Table → PlainTable
 plainTable t = record { servers = map plainServer (t .servers) }
@@ -111,7 +114,7 @@ plainTable t = record { servers = map plainServer (t .servers) }
 -- ---- a channel
 
 abbrev pub isChannel : PlainChannel → Bool
-isChannel p = isPeriod (p .period) && (all isServer (p .servers) && all isBit (p .whole))
+isChannel p = isPeriod (p .period) && (every isServer (p .servers) && every isBit (p .whole))
 
 abbrev pub channelOf : PlainChannel → State
 channelOf p = record { frame = p .frame; period = periodOf (p .period); servers = map serverOf (p .servers); whole = map bitOf (p .whole) }

@@ -1,18 +1,20 @@
 // The engine's values as structs of plain integers, for a caller in C or Rust: what decodes, what it stands for, and how a value is encoded.
 use front::Front;
+use group::Links;
+use group::Servers;
 use group::State;
 use group::Table;
 use heartbeat::Heartbeat;
+use periods::Period;
+use periods::PeriodAnswer;
 use refusal::Refusal;
 use refusal::Verdict;
-use server::Event;
-use server::Period;
-use server::PeriodAnswer;
+use roles::Event;
+use roles::Verb;
 use server::Server;
-use server::Verb;
 ghost use mathlib.Core.Path.{_≡_};
 ghost use mathlib.Core.List.{map};
-ghost use Rattle.lists.specs.Lists.{all};
+ghost use Rattle.lists.specs.Lists.{every};
 ghost use Rattle.refusal.specs.Answer.{ofVerdict};
 ghost use Rattle.plain.specs.Numbers.{isBit, isVerb, verbOf, isEvent, eventNumber, eventOf, isRefusal, refusalOf, isPeriod, periodOf};
 ghost use Rattle.plain.specs.Plain.{plainBit, bitOf, isServer, serverOf, plainServer, noServer, isFront, frontOf, plainFront, noFront, isHeartbeat, heartbeatOf, plainHeartbeat, noHeartbeat, isTable, tableOf, plainTable, isChannel, channelOf, plainChannel, noChannel};
@@ -50,10 +52,10 @@ pub struct PlainHeartbeat {
     pub reveal: u8,
 }
 
-// The servers of a channel, in rising identity; empty places, of identity 0, come last.
+// The servers of a channel, in rising identity; empty places, of identity 0, come last. Made by `playout_table_empty` and `playout_table_add`.
 #[repr(C)]
 pub struct PlainTable {
-    pub servers: [PlainServer; 16],
+    pub servers: [PlainServer; Table::SERVERS],
 }
 
 // A channel in a frame. `whole` has the link from place i to place j at 16 * i + j: 1 whole, 0 cut.
@@ -61,8 +63,8 @@ pub struct PlainTable {
 pub struct PlainChannel {
     pub frame: u32,
     pub period: u32,
-    pub servers: [PlainServer; 16],
-    pub whole: [u8; 256],
+    pub servers: [PlainServer; Table::SERVERS],
+    pub whole: [u8; Table::LINKS],
 }
 
 // ---- numbers
@@ -240,7 +242,7 @@ pub fn plain_server(s: Server) -> PlainServer
     PlainServer {
         identity: s.identity,
         priority: s.priority,
-        role: server::role_number(role) as u8,
+        role: roles::role_number(role) as u8,
         silence: s.silence,
         beat: s.beat,
         prospect: s.prospect,
@@ -364,11 +366,11 @@ pub fn no_heartbeat() -> PlainHeartbeat
 
 // ---- the servers of a table and of a channel
 
-fn are_servers(servers: [PlainServer; 16]) -> bool
-    ensures { λ r. ⌜ r ≡ all isServer servers ⌝ }
+fn are_servers(servers: [PlainServer; Table::SERVERS]) -> bool
+    ensures { λ r. ⌜ r ≡ every isServer servers ⌝ }
 {
     let mut i: usize = 0;
-    while i < 16 {
+    while i < Table::SERVERS {
         let p = servers[i];
         if !is_server(p) {
             return false;
@@ -378,13 +380,13 @@ fn are_servers(servers: [PlainServer; 16]) -> bool
     true
 }
 
-fn servers_of(servers: [PlainServer; 16]) -> [Server; 16]
+fn servers_of(servers: [PlainServer; Table::SERVERS]) -> Servers
     ensures { λ r. ⌜ r ≡ map serverOf servers ⌝ }
 {
     let nobody = Server::absent();
-    let mut next = [nobody; 16];
+    let mut next = [nobody; Table::SERVERS];
     let mut i: usize = 0;
-    while i < 16 {
+    while i < Table::SERVERS {
         let p = servers[i];
         let s = server_of(p);
         next[i] = s;
@@ -393,13 +395,13 @@ fn servers_of(servers: [PlainServer; 16]) -> [Server; 16]
     next
 }
 
-fn plain_servers(servers: [Server; 16]) -> [PlainServer; 16]
+fn plain_servers(servers: Servers) -> [PlainServer; Table::SERVERS]
     ensures { λ r. ⌜ r ≡ map plainServer servers ⌝ }
 {
     let nobody = no_server();
-    let mut next = [nobody; 16];
+    let mut next = [nobody; Table::SERVERS];
     let mut i: usize = 0;
-    while i < 16 {
+    while i < Table::SERVERS {
         let s = servers[i];
         let p = plain_server(s);
         next[i] = p;
@@ -410,11 +412,11 @@ fn plain_servers(servers: [Server; 16]) -> [PlainServer; 16]
 
 // ---- links
 
-fn are_bits(whole: [u8; 256]) -> bool
-    ensures { λ r. ⌜ r ≡ all isBit whole ⌝ }
+fn are_bits(whole: [u8; Table::LINKS]) -> bool
+    ensures { λ r. ⌜ r ≡ every isBit whole ⌝ }
 {
     let mut i: usize = 0;
-    while i < 256 {
+    while i < Table::LINKS {
         if !is_bit(whole[i]) {
             return false;
         }
@@ -423,24 +425,24 @@ fn are_bits(whole: [u8; 256]) -> bool
     true
 }
 
-fn links_of(whole: [u8; 256]) -> [bool; 256]
+fn links_of(whole: [u8; Table::LINKS]) -> Links
     ensures { λ r. ⌜ r ≡ map bitOf whole ⌝ }
 {
-    let mut next = [false; 256];
+    let mut next = [false; Table::LINKS];
     let mut i: usize = 0;
-    while i < 256 {
+    while i < Table::LINKS {
         next[i] = whole[i] == 1;
         i += 1;
     }
     next
 }
 
-fn plain_links(whole: [bool; 256]) -> [u8; 256]
+fn plain_links(whole: Links) -> [u8; Table::LINKS]
     ensures { λ r. ⌜ r ≡ map plainBit whole ⌝ }
 {
-    let mut next = [0; 256];
+    let mut next = [0; Table::LINKS];
     let mut i: usize = 0;
-    while i < 256 {
+    while i < Table::LINKS {
         next[i] = bit(whole[i]);
         i += 1;
     }
@@ -449,29 +451,28 @@ fn plain_links(whole: [bool; 256]) -> [u8; 256]
 
 // ---- a table
 
-// Whether a plain table decodes.
+// Whether a plain table decodes: it is one that adding makes.
 pub fn is_table(p: PlainTable) -> bool
     ensures { λ r. ⌜ r ≡ isTable p ⌝ }
 {
     let servers = p.servers;
-    are_servers(servers)
+    are_servers(servers) & group::is_table(servers_of(servers))
 }
 
-// The table that a plain one stands for.
+// The table that a plain one stands for; that of no server where it does not decode.
 pub fn table_of(p: PlainTable) -> Table
     ensures { λ r. ⌜ r ≡ tableOf p ⌝ }
 {
     let were = p.servers;
-    let servers = servers_of(were);
-    Table { servers }
+    let made = Table::of(servers_of(were));
+    made.table
 }
 
 // A table as plain integers.
 pub fn plain_table(t: Table) -> PlainTable
     ensures { λ r. ⌜ r ≡ plainTable t ⌝ }
 {
-    let were = t.servers;
-    let servers = plain_servers(were);
+    let servers = plain_servers(t.servers());
     PlainTable { servers }
 }
 
@@ -525,8 +526,8 @@ pub fn no_channel() -> PlainChannel
     ensures { λ r. ⌜ r ≡ noChannel ⌝ }
 {
     let nobody = no_server();
-    let servers = [nobody; 16];
-    let whole = [0; 256];
+    let servers = [nobody; Table::SERVERS];
+    let whole = [0; Table::LINKS];
     PlainChannel {
         frame: 0,
         period: 0,

@@ -10,11 +10,13 @@ use Rattle.lists.specs.Choice.{choose}
 use Rattle.lists.proofs.Cases.{tested, chosen, other, fst-true}
 use Rattle.refusal.specs.declared.Verdict.{Verdict}
 use Rattle.refusal.specs.Answer.{ofVerdict}
-use Rattle.server.specs.declared.Verb.{Verb}
-use Rattle.server.specs.declared.Event.{Event}
-use Rattle.server.specs.declared.Event.the-variants.{Nothing}
+use Rattle.roles.specs.declared.Verb.{Verb}
+use Rattle.roles.specs.declared.Event.{Event}
+use Rattle.roles.specs.declared.Event.the-variants.{Nothing}
 use Rattle.server.specs.Server.{after}
-use Rattle.server.specs.Verbs.{roleNumber, verbAnswer, verbHappens}
+use Rattle.roles.specs.Roles.{roleNumber}
+use Rattle.server.specs.Verbs.{verbAnswer}
+use Rattle.roles.specs.Verbs.{verbHappens}
 use Rattle.front.specs.declared.Front.{Front}
 use Rattle.front.specs.declared.ActedNow.{ActedNow}
 use Rattle.front.specs.Front.{takeFront, goesOn, risen, FrontBegins, happens, withServer, FrontActs}

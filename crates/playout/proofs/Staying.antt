@@ -1,5 +1,6 @@
 -- The law of specs/Laws.antt: periods never change, and all else that is encoded decodes. Assumes nothing.
 use mathlib.Core.Bool.{Bool, true, not, _&&_}
+use mathlib.Core.List.{map}
 use mathlib.Core.Path.{_≡_, refl, sym, ap, _∙_}
 use mathlib.Core.Logic.{inl, inr}
 use Prim.Native.Nat.{ℕ, zero, suc, _-_}
@@ -7,12 +8,15 @@ use native.Mathlib.Omega.{arith}
 use borrow.Author.Tests.{eq-eqb}
 use lib.Dec.{eqb}
 use Rattle.lists.specs.Choice.{choose}
-use Rattle.lists.proofs.Cases.{tested, chosen, other, by-choice, snd-true}
+use Rattle.lists.proofs.Cases.{tested, chosen, other, by-choice, and-right, snd-true}
 use Rattle.refusal.specs.Answer.{Answer}
-use Rattle.server.specs.declared.Period.{Period}
-use Rattle.server.specs.Period.{takePeriod}
+use Rattle.periods.specs.declared.Period.{Period}
+use Rattle.periods.specs.Period.{takePeriod}
 use Rattle.group.specs.declared.State.{State}
-use Rattle.group.specs.Table.{added, freshRefusal, fresh}
+use Rattle.group.specs.declared.Table.{Table}
+use Rattle.group.specs.Table as group
+use Rattle.group.specs.Table.{tableWith, added, freshRefusal, fresh}
+use Rattle.group.proofs.Made.{neat-added, neat-is, is-neat, table-empty}
 use Rattle.group.specs.Frame.{advanced}
 use Rattle.group.specs.Advance.{advancedBy}
 use Rattle.group.specs.Verbs.{did}
@@ -21,7 +25,7 @@ use Rattle.front.specs.Front.{fresh as freshFront, risen, hearing, timing}
 use Rattle.plain.specs.declared.PlainTable.{PlainTable}
 use Rattle.plain.specs.declared.PlainChannel.{PlainChannel}
 use Rattle.plain.specs.Numbers.{verbOf, isPeriod, periodOf}
-use Rattle.plain.specs.Plain.{isFront, frontOf, plainFront, heartbeatOf, isTable, tableOf, isChannel, channelOf, plainChannel}
+use Rattle.plain.specs.Plain.{serverOf, isFront, frontOf, plainFront, heartbeatOf, isTable, tableOf, isChannel, channelOf, plainChannel}
 use Rattle.plain.proofs.Laws.{laws}
 use Rattle.playout.specs.declared.FrontMade.{FrontMade}
 use Rattle.playout.specs.Front.{frontMade, afterVerb}
@@ -77,9 +81,16 @@ opened-in p n e =
     elim (tested (isPeriod n)) [
       | inl t ↦ t
       | inr t ↦
-          let none : freshRefusal (tableOf p) n ≡ 2 = other _ (ap (λ (a : Answer). eqb (a .number) 0) (other _ t)) in
+          let none : freshRefusal (tableOf p) n ≡ 2 = other _ (and-right (group.isTable (tableOf p .servers)) (ap (λ (a : Answer). eqb (a .number) 0) (other _ t))) in
           absurd (omega (arith, by-choice (λ (k : ℕ). k ≡ 2) (isTable p) (λ h. none) (λ h. refl), e))
     ]
+
+-- what a plain table stands for is a table, also where it does not decode
+decoded : (p : PlainTable) → group.isTable (tableOf p .servers) ≡ true
+unfolding tableWith
+decoded p =
+    let l = map serverOf (p .servers) in
+    by-choice (λ (t : Table). group.isTable (t .servers) ≡ true) (group.isTable l) (λ e. e) (λ e. table-empty)
 
 pub stays-plain : StaysPlain
 stays-plain =
@@ -89,7 +100,10 @@ stays-plain =
       hears = λ p h r p′ e w. either isFront _ _ p (w .front) (front-in (hearing (frontOf p) (heartbeatOf h) .front) (period-in (p .period))) e;
       ticks = λ p r p′ e w. either isFront _ _ p (w .front) (front-in (timing (frontOf p) .front) (period-in (p .period))) e;
       acts = λ p v b r p′ e w. either isFront _ _ p (w .front) (front-in (afterVerb (verbOf v) b (frontOf p)) (period-in (p .period))) e;
-      adds = λ p i q r e w. either isTable _ _ p (w .table) (laws .back .table (added (tableOf p) i q) .decodes) e;
+      adds =
+          λ p i q r e w.
+          either isTable _ _ p (w .table)
+          (laws .back .table (added (tableOf p) i q) (neat-is (added (tableOf p) i q) (neat-added (tableOf p) i q (is-neat (tableOf p) (decoded p)))) .decodes) e;
       opens = λ p n r w z. ap isChannel (w .channel ∙ chosen _ (eq-eqb _ 0 (sym (w .number) ∙ z))) ∙ channel-in (fresh (tableOf p) n) (opened-in p n (sym (w .number) ∙ z));
       advances = λ p d r d′ e w. either isChannel _ _ p (w .channel) (channel-in (advanced (channelOf p)) (step-in p)) e;
       reaches = λ p t d r d′ e w. either isChannel _ _ p (w .channel) (channel-in (advancedBy (t - p .frame) (channelOf p)) (time-in p (t - p .frame))) e;

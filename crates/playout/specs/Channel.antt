@@ -29,7 +29,7 @@ pub record Adds (p : PlainTable) (i q : ℕ) (r : TableAdded) : Type 0 where
 unfoldable pub freshNumber : PlainTable → ℕ → ℕ
 freshNumber p n = choose (isTable p) (freshRefusal (tableOf p) n) ill
 
--- the fresh channel of the table p with the period n; zeros where it is refused. Left free: a table that `playout_table_empty` and `playout_table_add` did not make; its servers are taken as they are
+-- the fresh channel of the table p with the period n; zeros where it is refused
 pub record Opens (p : PlainTable) (n : ℕ) (r : ChannelOpened) : Type 0 where
   pub number : r .number ≡ freshNumber p n
   pub channel : r .channel ≡ choose (eqb (freshNumber p n) 0) (plainChannel (fresh (tableOf p) n)) noChannel

@@ -1,5 +1,5 @@
 -- What the calls of a front answer, as equations on plain integers.
-use mathlib.Core.Bool.{not, _&&_}
+use mathlib.Core.Bool.{Bool, not, _&&_}
 use mathlib.Core.List.{List, map}
 use mathlib.Core.Path.{_≡_}
 use Prim.Native.Nat.{ℕ}
@@ -7,9 +7,11 @@ use lib.Dec.{eqb}
 use lib.ListN.{length, getD}
 use Rattle.lists.specs.Choice.{choose}
 use Rattle.heartbeat.specs.declared.Heartbeat.{Heartbeat}
-use Rattle.server.specs.declared.Verb.{Verb}
+use Rattle.roles.specs.declared.Verb.{Verb}
+use Rattle.roles.specs.declared.Event.the-variants.{Passed}
 use Rattle.server.specs.Server.{after}
-use Rattle.server.specs.Verbs.{roleNumber, verbAnswer}
+use Rattle.roles.specs.Roles.{roleNumber}
+use Rattle.server.specs.Verbs.{verbAnswer}
 use Rattle.settling.specs.Sending.{sends}
 use Rattle.front.specs.declared.Front.{Front}
 use Rattle.front.specs.declared.HeardNow.{HeardNow}
@@ -88,6 +90,10 @@ sendingOf l = record { number = 0; count = length l; heartbeat = getD (map plain
 abbrev pub notSent : Sending
 notSent = record { number = ill; count = 0; heartbeat = noHeartbeat }
 
--- what the event n of the front p sends, b being the identity passed to. Left free: event 10 with b 0, which no verb makes; it sends BS 0
+-- the event n, b being the identity passed to: there is no pass to nobody
+abbrev pub isSent : ℕ → ℕ → Bool
+isSent n b = isEvent n && not (eqb n (eventNumber (Passed b)) && eqb b 0)
+
+-- what the event n of the front p sends
 unfoldable pub frontSends : PlainFront → ℕ → ℕ → Sending
-frontSends p n b = choose (isFront p && isEvent n) (sendingOf (sends (serverOf (p .server)) (eventOf n b))) notSent
+frontSends p n b = choose (isFront p && isSent n b) (sendingOf (sends (serverOf (p .server)) (eventOf n b))) notSent

@@ -6,7 +6,8 @@ use lib.Dec.{leb, eqb}
 use lib.ListN.{getD}
 use Rattle.lists.specs.Choice.{choose}
 use Rattle.refusal.specs.Answer.{Answer, ofVerdict}
-use Rattle.server.specs.Verbs.{roleNumber, verbAnswer}
+use Rattle.roles.specs.Roles.{roleNumber}
+use Rattle.server.specs.Verbs.{verbAnswer}
 use Rattle.front.specs.Front.{goesOn, risen, hearing, timing, happens}
 use Rattle.channel.specs.declared.Answer as calls
 use Rattle.channel.specs.Answers.{state}

@@ -9,7 +9,7 @@ use Rattle.refusal.specs.Answer.{Answer, refused}
 use Rattle.text.specs.Write.{writing, wrote}
 use Rattle.heartbeat.specs.Rank.{higher}
 use Rattle.heartbeat.specs.Heartbeat.{sender}
-use Rattle.server.specs.Words.{said}
+use Rattle.roles.specs.Words.{said}
 use Rattle.lines.specs.Lines.{linesOf}
 use Rattle.plain.specs.declared.PlainHeartbeat.{PlainHeartbeat}
 use Rattle.plain.specs.declared.PlainFront.{PlainFront}

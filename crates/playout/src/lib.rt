@@ -12,7 +12,7 @@ use plain::PlainChannel;
 use plain::PlainFront;
 use plain::PlainHeartbeat;
 use plain::PlainTable;
-use server::Event;
+use roles::Event;
 use server::Server;
 use text::Written;
 use timecode::Timecode;
@@ -34,7 +34,7 @@ ghost use Rattle.day.specs.Sheet.{sheet};
 ghost use Rattle.settling.specs.Sending.{sends};
 ghost use Rattle.plain.specs.Numbers.{isVerb, verbOf, isEvent, isRefusal, refusalOf};
 ghost use Rattle.plain.specs.Plain.{isFront, isHeartbeat, heartbeatOf, isChannel, channelOf, noChannel};
-ghost use Rattle.playout.specs.Front.{ill, frontMade, Begins, Hears, Ticks, Acts, sendingOf, frontSends};
+ghost use Rattle.playout.specs.Front.{ill, frontMade, Begins, Hears, Ticks, Acts, sendingOf, isSent, frontSends};
 ghost use Rattle.playout.specs.Writing.{writtenOf, Puts, PutsIf, frontLines, heartbeatRead, timecodeRead, plainHigher};
 ghost use Rattle.playout.specs.Channel.{Adds, Opens, Answers};
 ghost use Rattle.playout.specs.Laws.{Empties};
@@ -221,7 +221,7 @@ fn hears(front: PlainFront, heartbeat: PlainHeartbeat) -> AfterHearing
         answer: FrontHeard {
             number: 0,
             event: plain::event_number(event),
-            role: server::role_number(role),
+            role: roles::role_number(role),
         },
     }
 }
@@ -260,7 +260,7 @@ fn ticks(front: PlainFront) -> AfterTimers
             silent: plain::event_number(silent),
             beating: plain::event_number(beating),
             rising: plain::event_number(rising),
-            role: server::role_number(role),
+            role: roles::role_number(role),
         },
     }
 }
@@ -317,7 +317,7 @@ fn acts(front: PlainFront, verb: u32, to: u16) -> AfterVerb
         answer: acted_as(
             plain::verdict_number(verdict),
             plain::event_number(event),
-            server::role_number(role),
+            roles::role_number(role),
         ),
     }
 }
@@ -440,13 +440,21 @@ fn sends_of(server: Server, event: Event) -> Sending
     }
 }
 
-// The heartbeat that an event of this front sends, if any. `to` is the identity passed to, for event 10. Refused with 2 (no such event, or
-// the front does not decode).
+// Whether there is such an event: none passes to nobody.
+fn is_sent(event: u32, to: u16) -> bool
+    ensures { λ r. ⌜ r ≡ isSent event to ⌝ }
+{
+    let passed = plain::event_number(Event::Passed(to));
+    plain::is_event(event) & !((event == passed) & (to == 0))
+}
+
+// The heartbeat that an event of this front sends, if any. `to` is the identity passed to, for event 10. Refused with 2 (no such event, event 10
+// with `to` 0, or the front does not decode).
 #[no_mangle]
 pub extern "C" fn playout_front_sends(front: PlainFront, event: u32, to: u16) -> Sending
     ensures { λ r. ⌜ r ≡ frontSends front event to ⌝ }
 {
-    if plain::is_front(front) & plain::is_event(event) {
+    if plain::is_front(front) & is_sent(event, to) {
         let server = front.server;
         sends_of(plain::server_of(server), plain::event_of(event, to))
     } else {
@@ -606,7 +614,7 @@ fn timecode_read_of(answer: TimecodeAnswer) -> TimecodeRead
     match answer {
         TimecodeAnswer::Is(t) => TimecodeRead {
             number: 0,
-            frame: t.frame,
+            frame: t.frame(),
         },
         TimecodeAnswer::Refused(k) => TimecodeRead {
             number: k.number() as u32,
@@ -617,10 +625,10 @@ fn timecode_read_of(answer: TimecodeAnswer) -> TimecodeRead
 
 // The frame that a label HH:MM:SS:FF names, 25 frames to a second. Refused with 3 (badly written, or outside the day).
 #[no_mangle]
-pub extern "C" fn playout_timecode_read(label: &[u8]) -> TimecodeRead
-    ensures { λ r. ⌜ r ≡ timecodeRead (readTimecode (now (label .entry))) ⌝ }
+pub extern "C" fn playout_timecode_read(time: &[u8]) -> TimecodeRead
+    ensures { λ r. ⌜ r ≡ timecodeRead (readTimecode (now (time .entry))) ⌝ }
 {
-    timecode_read_of(Timecode::read(label))
+    timecode_read_of(Timecode::read(time))
 }
 
 // The label of a frame, 11 bytes, into the slice. Gives how many bytes were written. Refused with 3 (outside the day), 9 (the slice is too
@@ -629,8 +637,10 @@ pub extern "C" fn playout_timecode_read(label: &[u8]) -> TimecodeRead
 pub extern "C" fn playout_timecode_write(frame: u32, out: &mut [u8]) -> PlainWritten
     ensures { λ r. ⌜ PutsIf (inDay frame) 3 (now (out .entry)) (label frame) r (now (out .exit)) ⌝ }
 {
-    let time = Timecode { frame };
-    written_of(time.write(out, 0))
+    match Timecode::of_frame(frame) {
+        TimecodeAnswer::Is(time) => written_of(time.write(out, 0)),
+        TimecodeAnswer::Refused(k) => written_of(Written::Refused(k)),
+    }
 }
 
 // ---- tables
@@ -655,8 +665,8 @@ fn adds(table: PlainTable, identity: u16, priority: u8) -> TableAdded
     }
 }
 
-// The table with a server more, of this identity and priority. Refused with 2 (identity 0, or the table does not decode), 5 (the identity
-// is in the table already), 6 (a seventeenth server).
+// The table with a server more, of this identity and priority. Refused with 2 (identity 0, or no table that `playout_table_empty` and this call
+// made), 5 (the identity is in the table already), 6 (a seventeenth server).
 #[no_mangle]
 pub extern "C" fn playout_table_add(table: PlainTable, identity: u16, priority: u8) -> TableAdded
     ensures { λ r. ⌜ Adds table identity priority r ⌝ }
@@ -678,11 +688,11 @@ fn unopened(number: u32) -> ChannelOpened
 }
 
 // The answer of an opening, by its number: where it is refused, zeros.
-fn opened_as(number: u32, state: State) -> ChannelOpened
-    ensures { λ r. ⌜ r ≡ openedAs number state ⌝ }
+fn opened_as(number: u32, opened: State) -> ChannelOpened
+    ensures { λ r. ⌜ r ≡ openedAs number opened ⌝ }
 {
     if number == 0 {
-        let channel = plain::plain_channel(state);
+        let channel = plain::plain_channel(opened);
         ChannelOpened { number: 0, channel }
     } else {
         unopened(number)
@@ -698,8 +708,8 @@ fn opens(table: PlainTable, period: u32) -> ChannelOpened
     opened_as(plain::verdict_number(verdict), state)
 }
 
-// A channel of the table's servers at frame 0, with a period in frames; the table is one that `playout_table_add` gave. Refused with 2 (a period that is not 2 to 250, or the table does not
-// decode), 6 (no server), 7 (a period below the number of servers).
+// A channel of the table's servers at frame 0, all idle, with a period in frames. Refused with 2 (a period that is not 2 to 250, or no table that
+// `playout_table_empty` and `playout_table_add` made), 6 (no server), 7 (a period below the number of servers).
 #[no_mangle]
 pub extern "C" fn playout_channel_fresh(table: PlainTable, period: u32) -> ChannelOpened
     ensures { λ r. ⌜ Opens table period r ⌝ }

@@ -8,7 +8,7 @@ use borrow.Author.Tests.{eq-eqb, lt-ltb}
 use lib.Dec.{eqb}
 use lib.ListN.{length, replicate}
 use Rattle.lists.specs.Choice.{choose}
-use Rattle.lists.specs.Lists.{count}
+use Rattle.lists.specs.Lists.{countBelow}
 use Rattle.lists.proofs.Cases.{tested, less, chosen, other, and-true, and-left, and-right, fst-true, snd-true, on}
 use Rattle.lists.proofs.Counting.{count-lt, count-size}
 use Rattle.heartbeat.specs.declared.Heartbeat.{Heartbeat}
@@ -23,7 +23,7 @@ use Rattle.group.proofs.Senders.{some-next, none-next, under-trans}
 -- ---- senders
 
 module _ (c : State) (j : ℕ) (apart : Apart c j) where
-  few-after : (n last : ℕ) → length (sendersAfter c j n last) ≤ count (waits c j last) 16
+  few-after : (n last : ℕ) → length (sendersAfter c j n last) ≤ countBelow (waits c j last) 16
   unfolding sendersAfter
   few-after zero last = omega arith
   few-after (suc n) last =

@@ -6,18 +6,18 @@ use mathlib.Core.List.{List, [], _∷_, _++_, List·Memᴰ, List·Memᴰ·head, 
 use Prim.Native.Nat.{ℕ}
 use borrow.Author.Tests.{eq-eqb, eqb-true, not-true}
 use lib.Dec.{eqb}
-use Rattle.lists.specs.Lists.{all}
+use Rattle.lists.specs.Lists.{every}
 use Rattle.lists.proofs.Cases.{tested, chosen, other, and-left, and-right, fst-true, snd-true, on, clash}
-use Rattle.lists.proofs.Clear.{all-weaker, all-front, all-back, all-mem}
+use Rattle.lists.proofs.Clear.{every-weaker, every-front, every-back, every-mem}
 use Rattle.heartbeat.specs.declared.Heartbeat.{Heartbeat}
 use Rattle.heartbeat.specs.Heartbeat.{sender, isSet}
 use Rattle.heartbeat.proofs.Order.{asymmetric}
-use Rattle.server.specs.declared.Role.{Role}
-use Rattle.server.specs.declared.Role.the-variants.{Down, Idle, Sync, Backup, Prospect, Primary}
+use Rattle.roles.specs.declared.Role.{Role}
+use Rattle.roles.specs.declared.Role.the-variants.{Down, Idle, Sync, Backup, Prospect, Primary}
 use Rattle.server.specs.declared.Server.{Server}
 use Rattle.server.specs.Server.{rankOf, inRole, setSilence, toProspect, sendReveal, after}
-use Rattle.hearing.specs.Hearing.{fromHigher, fromLower, forThis, backupHears, prospectHears, primaryHears, hearsIn, attending, heard}
-use Rattle.group.specs.Frame.{heardAll}
+use Rattle.server.specs.Hearing.{fromHigher, fromLower, forThis, backupHears, prospectHears, primaryHears, hearsIn, attending, heard, heardAll}
+use Rattle.server.proofs.Hearing.{heard-append}
 use Rattle.traces.specs.Trace.{isActive, isBeating}
 use Rattle.traces.proofs.Ways.{beating}
 use Rattle.group.proofs.Inbox.{Falls}
@@ -84,7 +84,7 @@ raise-one t s h e m l = hear-as t s h e ∙ ap (after t (setSilence t s)) (other
 -- ---- all of them
 
 abbrev pub unmarkedAll : List Heartbeat → Bool
-unmarkedAll hs = all (λ h. eqb (h .bs) 0) hs
+unmarkedAll hs = every (λ h. eqb (h .bs) 0) hs
 
 pub rest-all : (t : ℕ) (s : Server) (hs : List Heartbeat) → isActive (s .role) ≡ false → heardAll t s hs ≡ s
 unfolding heardAll
@@ -92,26 +92,21 @@ rest-all t s [] a = refl
 rest-all t s (h ∷ hs) a = ap (λ (x : Server). heardAll t x hs) (rest-one t s h (s .role) refl a) ∙ rest-all t s hs a
 
 -- heartbeats of lower senders only: a prospect or primary stays as it is
-pub stay-all : (t : ℕ) (s : Server) (hs : List Heartbeat) → isBeating (s .role) ≡ true → all (fromLower s) hs ≡ true → heardAll t s hs ≡ s
+pub stay-all : (t : ℕ) (s : Server) (hs : List Heartbeat) → isBeating (s .role) ≡ true → every (fromLower s) hs ≡ true → heardAll t s hs ≡ s
 unfolding heardAll
 stay-all t s [] b l = refl
 stay-all t s (h ∷ hs) b l =
-    ap (λ (x : Server). heardAll t x hs) (stay-one t s h b (asymmetric (rankOf s) (sender h) (fst-true (fromLower s h) (all (fromLower s) hs) l)))
-    ∙ stay-all t s hs b (snd-true (fromLower s h) (all (fromLower s) hs) l)
+    ap (λ (x : Server). heardAll t x hs) (stay-one t s h b (asymmetric (rankOf s) (sender h) (fst-true (fromLower s h) (every (fromLower s) hs) l)))
+    ∙ stay-all t s hs b (snd-true (fromLower s h) (every (fromLower s) hs) l)
 
 -- a list is empty, or has an element
 pub empty? : (l : List Heartbeat) → (l ≡ []) ⊎ ((h : Heartbeat) × List·Memᴰ h l)
 empty? [] = inl refl
 empty? (h ∷ l) = inr (h, List·Memᴰ·head refl)
 
-pub heard-append : (t : ℕ) (s : Server) (a b : List Heartbeat) → heardAll t s (a ++ b) ≡ heardAll t (heardAll t s a) b
-unfolding heardAll
-heard-append t s [] b = refl
-heard-append t s (h ∷ a) b = heard-append t (heard t s h .server) a b
-
 -- none of them calls up
 abbrev pub noCall : Server → List Heartbeat → Bool
-noCall s hs = all (λ h. not (callsUp s h)) hs
+noCall s hs = every (λ h. not (callsUp s h)) hs
 
 -- a backup that hears no call stays backup, its silence timer set
 attend-all : (t : ℕ) (s : Server) (hs : List Heartbeat) → s .role ≡ Backup → unmarkedAll hs ≡ true → noCall s hs ≡ true → heardAll t (setSilence t s) hs ≡ setSilence t s
@@ -141,13 +136,13 @@ prospect-is = refl
 -- a backup that hears a call among heartbeats of lower senders becomes prospect and reveals
 raised-under :
     (t : ℕ) (s : Server) (hs : List Heartbeat) {h : Heartbeat} → List·Memᴰ h hs → callsUp s h ≡ true → s .role ≡ Backup → unmarkedAll hs ≡ true →
-    all (fromLower s) hs ≡ true → heardAll t s hs ≡ raised t s
+    every (fromLower s) hs ≡ true → heardAll t s hs ≡ raised t s
 unfolding heardAll
 raised-under t s [] i u e m l = absurd (List·Memᴰ·not-nil i)
 raised-under t s (x ∷ hs) {h} i u e m l =
     let bs = eqb-true (x .bs) 0 (fst-true (eqb (x .bs) 0) (unmarkedAll hs) m) in
     let ms = snd-true (eqb (x .bs) 0) (unmarkedAll hs) m in
-    let ls = snd-true (fromLower s x) (all (fromLower s) hs) l in
+    let ls = snd-true (fromLower s x) (every (fromLower s) hs) l in
     on (tested (callsUp s x))
     (λ g. ap (λ (y : Server). heardAll t y hs) (raise-one t s x e bs g) ∙ stay-all t (raised t s) hs prospect-is ls)
     (λ g.
@@ -160,17 +155,17 @@ raised-under t s (x ∷ hs) {h} i u e m l =
 pub higher-no-call : (s : Server) (h : Heartbeat) → fromHigher s h ≡ true → callsUp s h ≡ false
 higher-no-call s h e = and-right (isSet (h .reveal)) (asymmetric (sender h) (rankOf s) e)
 
-highers-no-call : (s : Server) (hs : List Heartbeat) → all (fromHigher s) hs ≡ true → noCall s hs ≡ true
-highers-no-call s hs e = all-weaker (fromHigher s) (λ h. not (callsUp s h)) (λ h u. ap not (higher-no-call s h u)) hs e
+highers-no-call : (s : Server) (hs : List Heartbeat) → every (fromHigher s) hs ≡ true → noCall s hs ≡ true
+highers-no-call s hs e = every-weaker (fromHigher s) (λ h. not (callsUp s h)) (λ h u. ap not (higher-no-call s h u)) hs e
 
 -- ---- what is heard, falling in rank and with BS nobody's
 
 module _ (t : ℕ) (s : Server) (hs : List Heartbeat) (f : Falls s hs) (m : unmarkedAll hs ≡ true) where
   upper-unmarked : unmarkedAll (f .upper) ≡ true
-  upper-unmarked = all-front (λ h. eqb (h .bs) 0) (f .upper) (f .under) (rw (f .parts) at m)
+  upper-unmarked = every-front (λ h. eqb (h .bs) 0) (f .upper) (f .under) (rw (f .parts) at m)
 
   under-unmarked : unmarkedAll (f .under) ≡ true
-  under-unmarked = all-back (λ h. eqb (h .bs) 0) (f .upper) (f .under) (rw (f .parts) at m)
+  under-unmarked = every-back (λ h. eqb (h .bs) 0) (f .upper) (f .under) (rw (f .parts) at m)
 
   in-two : heardAll t s hs ≡ heardAll t (heardAll t s (f .upper)) (f .under)
   in-two = ap (heardAll t s) (f .parts) ∙ heard-append t s (f .upper) (f .under)
@@ -179,7 +174,7 @@ module _ (t : ℕ) (s : Server) (hs : List Heartbeat) (f : Falls s hs) (m : unma
   call-under : {h : Heartbeat} → List·Memᴰ h hs → callsUp s h ≡ true → List·Memᴰ h (f .under)
   call-under {h} i u =
       on (List·Memᴰ·append-cases (f .upper) (rw (f .parts) at i))
-      (λ q. absurd (clash u (higher-no-call s h (all-mem (fromHigher s) (f .upper) (f .highers) q))))
+      (λ q. absurd (clash u (higher-no-call s h (every-mem (fromHigher s) (f .upper) (f .highers) q))))
       (λ q. q)
 
   nothing-heard : heardAll t (heardAll t s []) (f .under) ≡ heardAll t s (f .under)
@@ -203,29 +198,29 @@ module _ (t : ℕ) (s : Server) (hs : List Heartbeat) (f : Falls s hs) (m : unma
   beater-stays lower b =
       on (empty? (f .upper))
       (λ z. ap (heardAll t s) (f .parts ∙ ap (λ (l : List Heartbeat). l ++ f .under) z) ∙ stay-all t s (f .under) b (f .lowers))
-      (λ z. absurd (clash (all-mem (fromHigher s) (f .upper) (f .highers) (z .1)) (lower (z .0) (rw (f .parts) (Memᴰ·append-left (f .under) (z .1))))))
+      (λ z. absurd (clash (every-mem (fromHigher s) (f .upper) (f .highers) (z .1)) (lower (z .0) (rw (f .parts) (Memᴰ·append-left (f .under) (z .1))))))
 
   -- the first of the higher senders makes a beater backup, and the others leave it so
-  upper-backs : {h : Heartbeat} (us : List Heartbeat) → List·Memᴰ h us → all (fromHigher s) us ≡ true → unmarkedAll us ≡ true → isBeating (s .role) ≡ true → heardAll t s us ≡ backed t s
+  upper-backs : {h : Heartbeat} (us : List Heartbeat) → List·Memᴰ h us → every (fromHigher s) us ≡ true → unmarkedAll us ≡ true → isBeating (s .role) ≡ true → heardAll t s us ≡ backed t s
   unfolding heardAll
   upper-backs [] i a n b = absurd (List·Memᴰ·not-nil i)
   upper-backs (u ∷ us) i a n b =
-      ap (λ (x : Server). heardAll t x us) (yield-one t s u b (fst-true (fromHigher s u) (all (fromHigher s) us) a))
+      ap (λ (x : Server). heardAll t x us) (yield-one t s u b (fst-true (fromHigher s u) (every (fromHigher s) us) a))
       ∙ attend-all t (backed t s) us refl (snd-true (eqb (u .bs) 0) (unmarkedAll us) n)
-      (highers-no-call s us (snd-true (fromHigher s u) (all (fromHigher s) us) a))
+      (highers-no-call s us (snd-true (fromHigher s u) (every (fromHigher s) us) a))
 
   -- a higher sender is among the first
   higher-upper : {h : Heartbeat} → List·Memᴰ h hs → fromHigher s h ≡ true → List·Memᴰ h (f .upper)
   higher-upper {h} i u =
       on (List·Memᴰ·append-cases (f .upper) (rw (f .parts) at i))
       (λ q. q)
-      (λ q. absurd (clash u (asymmetric (rankOf s) (sender h) (all-mem (fromLower s) (f .under) (f .lowers) q))))
+      (λ q. absurd (clash u (asymmetric (rankOf s) (sender h) (every-mem (fromLower s) (f .under) (f .lowers) q))))
 
   pub beater-backs : {h : Heartbeat} → List·Memᴰ h hs → fromHigher s h ≡ true → noCall s hs ≡ true → isBeating (s .role) ≡ true → heardAll t s hs ≡ backed t s
   beater-backs i u c b =
       in-two
       ∙ ap (λ (x : Server). heardAll t x (f .under)) (upper-backs (f .upper) (higher-upper i u) (f .highers) upper-unmarked b)
-      ∙ attend-all t (backed t s) (f .under) refl under-unmarked (all-back (λ h. not (callsUp s h)) (f .upper) (f .under) (rw (f .parts) at c))
+      ∙ attend-all t (backed t s) (f .under) refl under-unmarked (every-back (λ h. not (callsUp s h)) (f .upper) (f .under) (rw (f .parts) at c))
 
   pub beater-raised :
       {h k : Heartbeat} → List·Memᴰ h hs → fromHigher s h ≡ true → List·Memᴰ k hs → callsUp s k ≡ true → isBeating (s .role) ≡ true →

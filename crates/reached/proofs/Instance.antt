@@ -4,15 +4,15 @@ use mathlib.Core.Path.{_≡_, refl, sym, ap, subst, _∙_}
 use Prim.Native.Nat.{ℕ, zero, suc, _-_, _<_, _≤_}
 use native.Mathlib.Omega.{arith}
 use borrow.Author.Tests.{ne-eqb}
-use Rattle.lists.specs.Lists.{count}
+use Rattle.lists.specs.Lists.{countBelow}
 use Rattle.lists.proofs.Cases.{tested, on, clash}
 use Rattle.lists.proofs.Counting.{count-le}
 use Rattle.heartbeat.proofs.Order as ranks
-use Rattle.server.specs.declared.Period.{Period}
-use Rattle.server.specs.Period.{silenceLimit, prospectLimit, beatLimit}
+use Rattle.periods.specs.declared.Period.{Period}
+use Rattle.periods.specs.Period.{silenceLimit, prospectLimit, beatLimit}
 use Rattle.server.specs.Server.{rankOf, sentAny}
 use Rattle.server.proofs.Sent.{reveal-any}
-use Rattle.server.proofs.Limits.{silence-limit, prospect-limit}
+use Rattle.periods.proofs.Limits.{silence-limit, prospect-limit}
 use Rattle.group.specs.declared.State.{State}
 use Rattle.group.specs.Hearing.{place, over}
 use Rattle.traces.specs.Trace.{Trace, isActive, activeAt0}
@@ -45,7 +45,7 @@ module _ (c : State) (sound : Sound c) (links : AllWhole c) where
       }
 
   -- the active are seated, and so no more than P
-  limited : Limits (count (activeAt0 t) 16) (beatLimit p) (silenceLimit p) (prospectLimit p)
+  limited : Limits (countBelow (activeAt0 t) 16) (beatLimit p) (silenceLimit p) (prospectLimit p)
   limited =
       let m =
       count-le (activeAt0 t) (seatedIn c) 16

@@ -5,27 +5,27 @@ use mathlib.Core.List.{List, [], _∷_}
 use Prim.Native.Nat.{ℕ, _+_, _<_, _≤_}
 use native.Mathlib.Omega.{arith}
 use borrow.Author.Tests.{eq-eqb, ne-eqb}
-use Rattle.lists.specs.Lists.{all}
+use Rattle.lists.specs.Lists.{every}
 use Rattle.lists.proofs.Cases.{tested, equal, chosen, other, fst-true, snd-true, on, clash}
 use Rattle.heartbeat.specs.declared.Heartbeat.{Heartbeat}
 use Rattle.heartbeat.specs.declared.Rank.{Rank}
 use Rattle.heartbeat.specs.Rank.{higher}
 use Rattle.heartbeat.specs.Heartbeat.{sender}
-use Rattle.server.specs.declared.Role.{Role}
-use Rattle.server.specs.declared.Role.the-variants.{Down, Idle, Sync, Backup, Prospect, Primary}
-use Rattle.server.specs.declared.Event.{Event}
-use Rattle.server.specs.declared.Period.{Period}
+use Rattle.roles.specs.declared.Role.{Role}
+use Rattle.roles.specs.declared.Role.the-variants.{Down, Idle, Sync, Backup, Prospect, Primary}
+use Rattle.roles.specs.declared.Event.{Event}
+use Rattle.periods.specs.declared.Period.{Period}
 use Rattle.server.specs.declared.Server.{Server}
-use Rattle.server.specs.Period.{silenceLimit, prospectLimit, beatLimit}
+use Rattle.periods.specs.Period.{silenceLimit, prospectLimit, beatLimit}
 use Rattle.server.specs.Server.{rankOf, inRole, setSilence, setBeat, sendBeat, after}
-use Rattle.hearing.specs.Hearing.{fromHigher, fromLower, forThis, backupHears, prospectHears, primaryHears, attending, heard}
+use Rattle.server.specs.Hearing.{fromHigher, fromLower, forThis, backupHears, prospectHears, primaryHears, attending, heard, heardAll}
 use Rattle.server.specs.Timers.{aged, timed}
-use Rattle.group.specs.Frame.{heardAll}
 use Rattle.group.proofs.Laws.{rank-one, rank-heard}
 use Rattle.traces.specs.Trace.{isActive, isBeating}
 use Rattle.traces.proofs.Ways as ways
 use Rattle.group.proofs.Inbox.{Falls}
-use Rattle.reached.proofs.Heard.{hear-as, stay-all, heard-append, higher-no-call}
+use Rattle.reached.proofs.Heard.{hear-as, stay-all, higher-no-call}
+use Rattle.server.proofs.Hearing.{heard-append}
 use Rattle.reached.proofs.Ticks.{ticks-rest, ticks-wait, woken, ticks-wake, beaten, ticks-primary, ticks-prospect, ticks-ripe}
 use Rattle.reached.proofs.Young.{Due, Young, IsHearing, nothing, backs, beats, reveals, notes, hears-only}
 
@@ -232,11 +232,11 @@ quiet-one t s h r b =
     quiet-hearing t (attending t (s .role) s) (hears-only (s .role) s h) (reveal-attending t (s .role) s ∙ unrevealed s r b)
 
 -- who is lower hangs on the rank alone
-same-rank : (a b : Server) (hs : List Heartbeat) → rankOf a ≡ rankOf b → all (fromLower a) hs ≡ true → all (fromLower b) hs ≡ true
-same-rank a b hs e l = subst (λ (r : Rank). all (λ h. higher r (sender h)) hs ≡ true) e l
+same-rank : (a b : Server) (hs : List Heartbeat) → rankOf a ≡ rankOf b → every (fromLower a) hs ≡ true → every (fromLower b) hs ≡ true
+same-rank a b hs e l = subst (λ (r : Rank). every (λ h. higher r (sender h)) hs ≡ true) e l
 
 -- after heartbeats of lower senders
-lower-beats : (t : ℕ) (s : Server) (hs : List Heartbeat) → all (fromLower s) hs ≡ true → RevealerBeats s → RevealerBeats (heardAll t s hs)
+lower-beats : (t : ℕ) (s : Server) (hs : List Heartbeat) → every (fromLower s) hs ≡ true → RevealerBeats s → RevealerBeats (heardAll t s hs)
 unfolding heardAll
 lower-beats t s [] l r = r
 lower-beats t s (h ∷ hs) l r =
@@ -244,7 +244,7 @@ lower-beats t s (h ∷ hs) l r =
     (λ b. let e = stay-all t s (h ∷ hs) b l in rw (sym e) at r)
     (λ b.
     lower-beats t (heard t s h .server) hs
-    (same-rank s (heard t s h .server) hs (sym (rank-one t s h)) (snd-true (fromLower s h) (all (fromLower s) hs) l))
+    (same-rank s (heard t s h .server) hs (sym (rank-one t s h)) (snd-true (fromLower s h) (every (fromLower s) hs) l))
     (quiet-one t s h r b))
 
 -- a heartbeat of a higher sender makes nobody reveal
@@ -261,13 +261,13 @@ higher-reveal t s h Backup e u =
 higher-reveal t s h Prospect e u = ap (λ (x : Server). x .reveal) (hear-as t s h e) ∙ ap (λ (v : Event). after t s v .reveal) (chosen _ u)
 higher-reveal t s h Primary e u = ap (λ (x : Server). x .reveal) (hear-as t s h e) ∙ ap (λ (v : Event). after t s v .reveal) (chosen _ u)
 
-highers-reveal : (t : ℕ) (s : Server) (hs : List Heartbeat) → all (fromHigher s) hs ≡ true → heardAll t s hs .reveal ≡ s .reveal
+highers-reveal : (t : ℕ) (s : Server) (hs : List Heartbeat) → every (fromHigher s) hs ≡ true → heardAll t s hs .reveal ≡ s .reveal
 unfolding heardAll
 highers-reveal t s [] u = refl
 highers-reveal t s (h ∷ hs) u =
     highers-reveal t (heard t s h .server) hs
-    (subst (λ (r : Rank). all (λ x. higher (sender x) r) hs ≡ true) (sym (rank-one t s h)) (snd-true (fromHigher s h) (all (fromHigher s) hs) u))
-    ∙ higher-reveal t s h (s .role) refl (fst-true (fromHigher s h) (all (fromHigher s) hs) u)
+    (subst (λ (r : Rank). every (λ x. higher (sender x) r) hs ≡ true) (sym (rank-one t s h)) (snd-true (fromHigher s h) (every (fromHigher s) hs) u))
+    ∙ higher-reveal t s h (s .role) refl (fst-true (fromHigher s h) (every (fromHigher s) hs) u)
 
 -- after all that is heard
 pub revealer-heard : (t : ℕ) (s : Server) (hs : List Heartbeat) → Falls s hs → s .reveal ≡ false → RevealerBeats (heardAll t s hs)

@@ -4,18 +4,18 @@ use mathlib.Core.Path.{_≡_, refl, sym, ap, _∙_}
 use mathlib.Core.List.{List, [], _∷_}
 use Prim.Native.Nat.{ℕ, zero, suc, _-_, _<_}
 use native.Mathlib.Omega.{arith}
-use borrow.Author.Tests.{eq-eqb, ne-eqb, eqb-false, ltb-true}
+use borrow.Author.Tests.{eq-eqb, ne-eqb, eqb-false, ltb-true, eqb-true}
 use lib.Dec.{eqb}
 use lib.ListN.{length, getD, set}
 use Rattle.lists.specs.Choice.{choose}
 use Rattle.lists.specs.Lists.{indexWhere}
 use Rattle.lists.proofs.Cases.{tested, equal, chosen, other, and-true, and-left, and-right, fst-true, snd-true, on, not-first, same-choice, or-false}
 use Rattle.heartbeat.specs.declared.Rank.{Rank}
-use Rattle.server.specs.declared.Verb.{Verb}
-use Rattle.server.specs.declared.Verb.the-variants.{Start, Ready, Unready, Pass, Crash, Restart, Cut, Mend}
+use Rattle.roles.specs.declared.Verb.{Verb}
+use Rattle.roles.specs.declared.Verb.the-variants.{Start, Ready, Unready, Pass, Crash, Restart, Cut, Mend}
 use Rattle.server.specs.declared.Server.{Server}
 use Rattle.server.specs.Server.{absent}
-use Rattle.server.specs.Verbs.{paired}
+use Rattle.roles.specs.Verbs.{paired}
 use Rattle.group.specs.declared.State.{State}
 use Rattle.group.specs.Outcome.{numberIn}
 use Rattle.group.specs.Table.{most, named, placeIn}
@@ -41,12 +41,12 @@ set-there l i x j d h = on (set-cases l i x j d) (λ e. e) (λ r. absurd (h (r .
 found-there : (i : ℕ) (l : List Server) → indexWhere (named i) l < length l → getD l (indexWhere (named i) l) absent .identity ≡ i
 found-there i [] h = absurd (omega arith)
 found-there i (s ∷ l) h =
-    on (equal (s .identity) i)
+    on (tested (named i s))
     (λ e.
-    let z = chosen {t = named i s} {a = 0} (suc (indexWhere (named i) l)) (eq-eqb (s .identity) i e) in
-    ap (λ (k : ℕ). getD (s ∷ l) k absent .identity) z ∙ e)
+    let z = chosen {t = named i s} {a = 0} (suc (indexWhere (named i) l)) e in
+    ap (λ (k : ℕ). getD (s ∷ l) k absent .identity) z ∙ eqb-true (s .identity) i (snd-true (not (eqb i 0)) _ e))
     (λ e.
-    let z = other {t = named i s} {b = suc (indexWhere (named i) l)} 0 (ne-eqb (s .identity) i e) in
+    let z = other {t = named i s} {b = suc (indexWhere (named i) l)} 0 e in
     ap (λ (k : ℕ). getD (s ∷ l) k absent .identity) z ∙ found-there i l (omega (arith, z, h)))
 
 module _ (c : State) (sound : Sound c) where

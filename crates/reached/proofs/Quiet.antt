@@ -7,15 +7,16 @@ use native.Mathlib.Omega.{arith}
 use borrow.Author.Tests.{eq-eqb, ne-eqb}
 use Rattle.lists.specs.Choice.{choose}
 use Rattle.lists.proofs.Cases.{equal, chosen, other, on}
-use Rattle.server.specs.declared.Role.the-variants.{Backup, Prospect, Primary}
-use Rattle.server.specs.declared.Period.{Period}
+use Rattle.roles.specs.declared.Role.the-variants.{Backup, Prospect, Primary}
+use Rattle.periods.specs.declared.Period.{Period}
 use Rattle.server.specs.declared.Server.{Server}
-use Rattle.server.specs.Period.{silenceLimit, prospectLimit, beatLimit}
+use Rattle.periods.specs.Period.{silenceLimit, prospectLimit, beatLimit}
 use Rattle.server.specs.Server.{inRole, setSilence, setBeat, sendBeat, cleared, oneMore, sentAny}
 use Rattle.server.specs.Timers.{timed}
 use Rattle.group.specs.declared.State.{State}
 use Rattle.group.specs.Hearing.{place, inbox}
-use Rattle.group.specs.Frame.{heardAll, advanced}
+use Rattle.server.specs.Hearing.{heardAll}
+use Rattle.group.specs.Frame.{advanced}
 use Rattle.traces.specs.Trace.{isActive, isBeating, HearsHigher, HearsLowReveal, HearsAny}
 use Rattle.traces.specs.Facts.{SilentBackup, RevealingProspect, Waited, BeatsOn, QuietStep}
 use Rattle.traces.proofs.Ways as ways

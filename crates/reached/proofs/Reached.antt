@@ -9,21 +9,22 @@ use borrow.Author.Tests.{eq-eqb, ne-eqb}
 use lib.Dec.{eqb}
 use lib.ListN.{length, getD, set, length-set}
 use Rattle.lists.specs.Choice.{choose}
-use Rattle.lists.specs.Lists.{count}
+use Rattle.lists.specs.Lists.{countBelow}
 use Rattle.lists.proofs.Cases.{equal, chosen, other, on, clash, by-choice}
 use Rattle.lists.proofs.Counting.{count-le}
 use Rattle.refusal.specs.Answer.{Answer}
 use Rattle.heartbeat.specs.declared.Rank.{Rank}
-use Rattle.server.specs.declared.Role.{Role}
-use Rattle.server.specs.declared.Role.the-variants.{Backup}
-use Rattle.server.specs.declared.Verb.{Verb}
-use Rattle.server.specs.declared.Verb.the-variants.{Start, Ready, Unready, Pass, Crash, Restart, Cut, Mend}
-use Rattle.server.specs.declared.Event.{Event}
-use Rattle.server.specs.declared.Event.the-variants.{Nothing, ToBackup, ToSync, ToIdle, ToDown, Passed}
-use Rattle.server.specs.declared.Period.{Period}
+use Rattle.roles.specs.declared.Role.{Role}
+use Rattle.roles.specs.declared.Role.the-variants.{Backup}
+use Rattle.roles.specs.declared.Verb.{Verb}
+use Rattle.roles.specs.declared.Verb.the-variants.{Start, Ready, Unready, Pass, Crash, Restart, Cut, Mend}
+use Rattle.roles.specs.declared.Event.{Event}
+use Rattle.roles.specs.declared.Event.the-variants.{Nothing, ToBackup, ToSync, ToIdle, ToDown, Passed}
+use Rattle.periods.specs.declared.Period.{Period}
 use Rattle.server.specs.declared.Server.{Server}
 use Rattle.server.specs.Server.{absent, rankOf, sentAny, after}
-use Rattle.server.specs.Verbs.{paired, entering, verbEvent, verbHappens, verbAnswer}
+use Rattle.roles.specs.Verbs.{paired, entering, verbEvent, verbHappens}
+use Rattle.server.specs.Verbs.{verbAnswer}
 use Rattle.group.specs.declared.State.{State}
 use Rattle.group.specs.Outcome.{numberIn, channelIn}
 use Rattle.group.specs.Hearing.{place, linkOf}
@@ -207,7 +208,7 @@ module _ (c : State) (sound : Sound c) (v : Verb) (a b : ℕ) where
           (λ q. subst (Young (c .period) (c .frame)) (sym q) (sound .young i l))
           (λ q. q .2)
 
-      fits : count (seatedIn (did c v a b)) 16 ≤ did c v a b .period .frames
+      fits : countBelow (seatedIn (did c v a b)) 16 ≤ did c v a b .period .frames
       fits =
           let m = count-le (seatedIn (did c v a b)) (seatedIn c) 16 (λ i h e. sym (ap (λ (x : ℕ). not (eqb x 0)) (identity-did i h)) ∙ e) in
           let g = sound .fits in

@@ -7,7 +7,7 @@ use native.Mathlib.Omega.{arith}
 use borrow.Author.Tests.{eq-eqb, ne-eqb, eqb-false, not-true}
 use lib.Dec.{eqb}
 use Rattle.lists.proofs.Cases.{tested, and-true, fst-true, snd-true, on, clash}
-use Rattle.lists.proofs.Clear.{all-of}
+use Rattle.lists.proofs.Clear.{every-of}
 use Rattle.heartbeat.specs.declared.Rank.{Rank}
 use Rattle.heartbeat.specs.declared.Heartbeat.{Heartbeat}
 use Rattle.heartbeat.specs.Rank.{higher}
@@ -15,7 +15,7 @@ use Rattle.heartbeat.specs.Heartbeat.{isSet}
 use Rattle.heartbeat.proofs.Order.{irreflexive}
 use Rattle.server.specs.declared.Server.{Server}
 use Rattle.server.specs.Server.{rankOf, cleared, revealOf, sentAny}
-use Rattle.hearing.specs.Hearing.{fromHigher, fromLower}
+use Rattle.server.specs.Hearing.{fromHigher, fromLower}
 use Rattle.server.proofs.Sent.{some-sent, reveal-sent, reveal-any, sent-rank, sent-reveal, sent-unmarked}
 use Rattle.group.specs.declared.State.{State}
 use Rattle.group.specs.Hearing.{place, over, hearsFrom, inbox}
@@ -141,7 +141,7 @@ module _ (c : State) (sound : Sound c) (links : AllWhole c) where
 
     pub no-low-in : ¬ HearsLowReveal (traceOf c) k i → noCall hearer (inbox at i) ≡ true
     no-low-in n =
-        all-of (λ h. not (callsUp hearer h)) (inbox at i)
+        every-of (λ h. not (callsUp hearer h)) (inbox at i)
         (λ h m.
         on (tested (callsUp hearer h))
         (λ e.
@@ -177,5 +177,5 @@ module _ (c : State) (sound : Sound c) (links : AllWhole c) where
     -- where nobody passed, BS is nobody's
     pub unmarked-in : NoPass at → unmarkedAll (inbox at i) ≡ true
     unmarked-in n =
-        all-of (λ h. eqb (h .bs) 0) (inbox at i)
+        every-of (λ h. eqb (h .bs) 0) (inbox at i)
         (λ h m. let o = of-inbox at i apart h m in eq-eqb (h .bs) 0 (sent-unmarked (place at (o .0)) h (o .3) (n (o .0) (o .1))))

@@ -7,7 +7,7 @@ use borrow.Author.Tests.{eqb-false, not-true}
 use lib.Dec.{eqb}
 use lib.ListN.{length}
 use Rattle.lists.specs.Choice.{choose}
-use Rattle.lists.specs.Lists.{count}
+use Rattle.lists.specs.Lists.{countBelow}
 use Rattle.lists.proofs.Cases.{tested, fst-true, on, clash}
 use Rattle.lists.proofs.Counting.{count-le}
 use Rattle.heartbeat.specs.declared.Rank.{Rank}
@@ -16,7 +16,8 @@ use Rattle.server.specs.Server.{rankOf, cleared, sentAny}
 use Rattle.server.specs.Timers.{timed}
 use Rattle.group.specs.declared.State.{State}
 use Rattle.group.specs.Hearing.{place, whole, hearsFrom, inbox}
-use Rattle.group.specs.Frame.{heardAll, hearing, turned, advanced}
+use Rattle.server.specs.Hearing.{heardAll}
+use Rattle.group.specs.Frame.{hearing, turned, advanced}
 use Rattle.group.specs.Laws.{SendersDiffer}
 use Rattle.group.proofs.Laws.{rank-heard, rank-ticked}
 use Rattle.traces.specs.Trace.{isActive, isBeating}
@@ -46,7 +47,7 @@ pub record Sound (c : State) : Type 0 where
   -- no identity stands twice
   pub apart : (i j : ℕ) → i < 16 → j < 16 → (i ≡ j → ⊥) → (place c i .identity ≡ 0 → ⊥) → place c i .identity ≡ place c j .identity → ⊥
   -- the period has a frame for each server
-  pub fits : count (seatedIn c) 16 ≤ c .period .frames
+  pub fits : countBelow (seatedIn c) 16 ≤ c .period .frames
 
 -- nobody passed in this frame
 abbrev pub NoPass : State → Type 0

@@ -10,15 +10,16 @@ use Rattle.text.specs.Digits.{digits}
 use Rattle.timecode.specs.Label.{label}
 use Rattle.heartbeat.specs.Rank.{higher}
 use Rattle.server.specs.Server.{oneMore, sentBy, sentAny, after}
-use Rattle.hearing.specs.Hearing.{forThis, backupHears, prospectHears, primaryHears}
+use Rattle.server.specs.Hearing.{forThis, backupHears, prospectHears, primaryHears, heardAll}
 use Rattle.server.specs.Timers.{afterSilent, afterBeating, afterRising}
-use Rattle.server.specs.Verbs.{from, enters, entering, verbHappens, verbAnswer}
+use Rattle.roles.specs.Verbs.{from, enters, entering, verbHappens}
+use Rattle.server.specs.Verbs.{verbAnswer}
 use Rattle.group.specs.declared.State.{State}
 use Rattle.group.specs.Outcome.{numberIn, channelIn}
-use Rattle.group.specs.Table.{placeIn, standsBefore, enter, addRefusal, added, withServers}
+use Rattle.group.specs.Table.{placeIn, standsBefore, enter, anew, isNew, follows, rises, isTable, addRefusal, added, withServers}
 use Rattle.lines.specs.Lines.{line, linesOf}
 use Rattle.group.specs.Hearing.{hearsFrom, comes, nextAmong, nextSender, sendersAfter, sentByAll, inbox}
-use Rattle.group.specs.Frame.{heardAll, heardLines, timedLines, hearing, turned, turnLines, turnsLines, advanced, frameLines}
+use Rattle.group.specs.Frame.{heardLines, timedLines, hearing, turned, turnLines, turnsLines, advanced, frameLines}
 use Rattle.group.specs.Verbs.{namesNobody, known, stateRefusal, verbRefusal, did}
 use Rattle.group.specs.Advance.{advancedBy, linesBy, timeRefusal}
 use Rattle.group.specs.Calls.{advanceTo, callNumber, callChannel, channelAfter}
@@ -43,5 +44,5 @@ pub computed :
     && (says (channelAfter (opened threeHighest) twoPrimaries) (3 ∷ 5 ∷ 5 ∷ []) (3 ∷ 3 ∷ 5 ∷ []) (3 ∷ 3 ∷ 5 ∷ [])
     && (same (rolesOf (channelAfter (channelAfter (opened threeHighest) slowest) (advanceTo 25 lent ∷ []))) (3 ∷ 3 ∷ 4 ∷ [])
     && (not (cutAfter 3 2 (opened threeHighest) slowest false) && not (cutAfter 3 2 (opened threeHighest) twoPrimaries false)))))))) ≡ true
-unfolding says choose same digits label higher oneMore sentBy sentAny after forThis backupHears prospectHears primaryHears afterSilent afterBeating afterRising from enters entering verbHappens verbAnswer numberIn channelIn placeIn standsBefore enter addRefusal added line linesOf hearsFrom comes nextAmong nextSender sendersAfter sentByAll inbox heardAll heardLines timedLines hearing turned turnLines turnsLines advanced frameLines namesNobody known stateRefusal verbRefusal did advancedBy linesBy timeRefusal callChannel callNumber channelAfter withServers cutAfter cutByCall
+unfolding says choose same digits label higher oneMore sentBy sentAny after forThis backupHears prospectHears primaryHears afterSilent afterBeating afterRising from enters entering verbHappens verbAnswer numberIn channelIn placeIn standsBefore enter anew isNew follows rises isTable addRefusal added line linesOf hearsFrom comes nextAmong nextSender sendersAfter sentByAll inbox heardAll heardLines timedLines hearing turned turnLines turnsLines advanced frameLines namesNobody known stateRefusal verbRefusal did advancedBy linesBy timeRefusal callChannel callNumber channelAfter withServers cutAfter cutByCall
 computed = refl

@@ -7,16 +7,15 @@ use native.Mathlib.Omega.{arith}
 use Rattle.lists.proofs.Cases.{clash, by-choice}
 use Rattle.heartbeat.specs.declared.Heartbeat.{Heartbeat}
 use Rattle.heartbeat.specs.Heartbeat.{isSet}
-use Rattle.server.specs.declared.Role.{Role}
-use Rattle.server.specs.declared.Role.the-variants.{Down, Idle, Sync, Backup, Prospect, Primary}
-use Rattle.server.specs.declared.Event.{Event}
-use Rattle.server.specs.declared.Event.the-variants.{Nothing, ToBackup, ToProspectBeat, ToProspectReveal, Lower}
-use Rattle.server.specs.declared.Period.{Period}
+use Rattle.roles.specs.declared.Role.{Role}
+use Rattle.roles.specs.declared.Role.the-variants.{Down, Idle, Sync, Backup, Prospect, Primary}
+use Rattle.roles.specs.declared.Event.{Event}
+use Rattle.roles.specs.declared.Event.the-variants.{Nothing, ToBackup, ToProspectBeat, ToProspectReveal, Lower}
+use Rattle.periods.specs.declared.Period.{Period}
 use Rattle.server.specs.declared.Server.{Server}
-use Rattle.server.specs.Period.{silenceLimit, prospectLimit, beatLimit}
+use Rattle.periods.specs.Period.{silenceLimit, prospectLimit, beatLimit}
 use Rattle.server.specs.Server.{after}
-use Rattle.hearing.specs.Hearing.{fromHigher, fromLower, forThis, backupHears, prospectHears, primaryHears, hearsIn, attending, heard}
-use Rattle.group.specs.Frame.{heardAll}
+use Rattle.server.specs.Hearing.{fromHigher, fromLower, forThis, backupHears, prospectHears, primaryHears, hearsIn, attending, heard, heardAll}
 use Rattle.traces.specs.Trace.{isActive, isBeating}
 use Rattle.traces.proofs.Ways as ways
 

@@ -3,8 +3,8 @@ use mathlib.Core.List.{List, [], _∷_}
 use Prim.Native.Nat.{ℕ}
 use lib.ListN.{replicate}
 use Rattle.heartbeat.specs.declared.Rank.{Rank}
-use Rattle.server.specs.declared.Verb.the-variants.{Start, Ready, Pass, Cut, Mend}
-use Rattle.server.specs.Verbs.{roleNumber}
+use Rattle.roles.specs.declared.Verb.the-variants.{Start, Ready, Pass, Cut, Mend}
+use Rattle.roles.specs.Roles.{roleNumber}
 use Rattle.group.specs.declared.State.{State}
 use Rattle.group.specs.Table.{tableOf, fresh}
 use Rattle.group.specs.Hearing.{place}

@@ -1,22 +1,23 @@
--- What a verb makes of a server, from what was looked up. Assumes nothing.
+-- What a verb makes of a server, from what its role allows. Assumes nothing.
 use mathlib.Core.Bool.{Bool, true, false, _&&_, _||_}
 use mathlib.Core.Path.{_≡_, refl, sym, ap, _∙_}
 use mathlib.Core.List.{[], _∷_}
-use Prim.Native.Nat.{ℕ, _<_, _≤_}
+use Prim.Native.Nat.{ℕ}
 use native.Mathlib.Omega.{arith}
-use borrow.Author.Tests.{lt-ltb, le-ltb, ne-eqb}
+use borrow.Author.Tests.{ne-eqb}
 use lib.Dec.{eqb}
 use Rattle.lists.proofs.Cases.{chosen, other}
 use Rattle.refusal.specs.Answer.{Answer, accepted, refused, numberOf}
 use Rattle.refusal.specs.declared.Refusal.{Refusal}
 use Rattle.refusal.specs.declared.Verdict.the-variants.{Accepted}
 use Rattle.refusal.proofs.Answers.{number-some}
-use Rattle.server.specs.declared.Verb.{Verb}
-use Rattle.server.specs.declared.Event.{Event}
-use Rattle.server.specs.declared.Event.the-variants.{Nothing}
+use Rattle.roles.specs.declared.Verb.{Verb}
+use Rattle.roles.specs.declared.Event.{Event}
+use Rattle.roles.specs.declared.Event.the-variants.{Nothing}
 use Rattle.server.specs.declared.Server.{Server}
 use Rattle.server.specs.Server.{after}
-use Rattle.server.specs.Verbs.{enters, ofCell, verbEvent, verbHappens, paired, verbAnswer, refusing, Acts}
+use Rattle.roles.specs.Verbs.{enters, verbEvent, verbHappens, paired}
+use Rattle.server.specs.Verbs.{verbAnswer, refusing, Acts}
 
 module _ (v : Verb) (t b : ℕ) (s : Server) where
   happens : (k : ℕ) → verbHappens v b (accepted (k ∷ [])) ≡ verbEvent v b k
@@ -34,20 +35,13 @@ module _ (v : Verb) (t b : ℕ) (s : Server) where
       let none : verbHappens v b a ≡ Nothing = ap (verbHappens v b) (sym e) ∙ nothing (numberOf k) (λ z. omega (arith, number-some k)) in
       record { number = ap (λ (x : Answer). x .number) e; event = sym none; server = sym (ap (after t s) none) }
 
-  -- a cell that holds a role
+  -- a role entered or kept
   pub allowed :
-      (a : Answer) (n : ℕ) {e : Event} {s′ : Server} → n < 12 → ofCell n ≡ a → e ≡ verbEvent v b n → s′ ≡ after t s e →
+      (a : Answer) (n : ℕ) {e : Event} {s′ : Server} → accepted (n ∷ []) ≡ a → e ≡ verbEvent v b n → s′ ≡ after t s e →
       Acts v t b s a (record { verdict = Accepted; server = s′; event = e })
-  unfolding ofCell
-  allowed a n h c e f =
-      let is : accepted (n ∷ []) ≡ a = sym (chosen _ (lt-ltb n 12 h)) ∙ c in
+  allowed a n is e f =
       let so : verbEvent v b n ≡ verbHappens v b a = sym (happens n) ∙ ap (verbHappens v b) is in
       record { number = ap (λ (x : Answer). x .number) is; event = e ∙ so; server = f ∙ ap (after t s) (e ∙ so) }
-
-  -- a cell that holds a refusal
-  pub barred : (a : Answer) (n : ℕ) {k : Refusal} → 12 ≤ n → ofCell n ≡ a → numberOf k ≡ n → Acts v t b s a (refusing s k)
-  unfolding ofCell
-  barred a n {k} h c e = refused-with a k (ap refused e ∙ sym (other _ (le-ltb n 12 h)) ∙ c)
 
 -- the tests before the table, p being whether the verb is a pass
 module _ (v : Verb) (b : ℕ) (s : Server) {p : Bool} (e : p ≡ paired v) where

@@ -1,5 +1,4 @@
+pub mod Hearing
 pub mod Timing
-pub mod Limits
 pub mod Sent
-pub mod Table
 pub mod Acting

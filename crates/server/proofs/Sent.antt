@@ -8,32 +8,32 @@ use borrow.Author.Tests.{eq-eqb, ne-eqb, eqb-true, not-true}
 use lib.Dec.{eqb}
 use lib.ListN.{replicate}
 use Rattle.lists.specs.Choice.{choose}
-use Rattle.lists.specs.Lists.{all}
+use Rattle.lists.specs.Lists.{every}
 use Rattle.lists.proofs.Cases.{tested, equal, chosen, other, and-true, fst-true, snd-true, on, clash}
-use Rattle.lists.proofs.Clear.{all-append, all-mem}
+use Rattle.lists.proofs.Clear.{every-append, every-mem}
 use Rattle.heartbeat.specs.declared.Heartbeat.{Heartbeat}
 use Rattle.heartbeat.specs.Heartbeat.{sender, isSet}
 use Rattle.server.specs.declared.Server.{Server}
 use Rattle.server.specs.Server.{rankOf, plainOf, revealOf, passOf, sentBy, sentAny}
 
-all-replicate : (p : Heartbeat → Bool) (n : ℕ) (h : Heartbeat) → p h ≡ true → all p (replicate n h) ≡ true
-all-replicate p zero h e = refl
-all-replicate p (suc n) h e = and-true e (all-replicate p n h e)
+every-replicate : (p : Heartbeat → Bool) (n : ℕ) (h : Heartbeat) → p h ≡ true → every p (replicate n h) ≡ true
+every-replicate p zero h e = refl
+every-replicate p (suc n) h e = and-true e (every-replicate p n h e)
 
 -- what holds of its beat, of its reveal and its pass if there are any, holds of all that it sent
-pub all-sent :
+pub every-sent :
     (p : Heartbeat → Bool) (s : Server) → p (plainOf s) ≡ true → (s .reveal ≡ false) ⊎ (p (revealOf s) ≡ true) →
-    (s .pass ≡ 0) ⊎ (p (passOf s) ≡ true) → all p (sentBy s) ≡ true
+    (s .pass ≡ 0) ⊎ (p (passOf s) ≡ true) → every p (sentBy s) ≡ true
 unfolding sentBy
-all-sent p s a b d =
-    all-append p (replicate (s .beats) (plainOf s)) _ (all-replicate p (s .beats) (plainOf s) a)
-    (all-append p (choose (s .reveal) (revealOf s ∷ []) []) _
+every-sent p s a b d =
+    every-append p (replicate (s .beats) (plainOf s)) _ (every-replicate p (s .beats) (plainOf s) a)
+    (every-append p (choose (s .reveal) (revealOf s ∷ []) []) _
     (on (tested (s .reveal))
-    (λ t. ap (all p) (chosen _ t) ∙ and-true (on b (λ e. absurd (clash t e)) (λ e. e)) refl)
-    (λ t. ap (all p) (other _ t)))
+    (λ t. ap (every p) (chosen _ t) ∙ and-true (on b (λ e. absurd (clash t e)) (λ e. e)) refl)
+    (λ t. ap (every p) (other _ t)))
     (on (equal (s .pass) 0)
-    (λ z. ap (all p) (chosen _ (eq-eqb (s .pass) 0 z)))
-    (λ z. ap (all p) (other _ (ne-eqb (s .pass) 0 z)) ∙ and-true (on d (λ e. absurd (z e)) (λ e. e)) refl)))
+    (λ z. ap (every p) (chosen _ (eq-eqb (s .pass) 0 z)))
+    (λ z. ap (every p) (other _ (ne-eqb (s .pass) 0 z)) ∙ and-true (on d (λ e. absurd (z e)) (λ e. e)) refl)))
 
 in-chosen : (t : Bool) (a b : List Heartbeat) {h : Heartbeat} → t ≡ true → List·Memᴰ h a → List·Memᴰ h (choose t a b)
 unfolding choose
@@ -85,7 +85,7 @@ pub sent-rank : (s : Server) (h : Heartbeat) → List·Memᴰ h (sentBy s) → s
 sent-rank s h m =
     let ranked : Heartbeat → Bool = λ x. eqb (x .priority) (s .priority) && eqb (x .tiebreaker) (s .identity) in
     let own = and-true (eq-eqb (s .priority) (s .priority) refl) (eq-eqb (s .identity) (s .identity) refl) in
-    let e = all-mem ranked (sentBy s) (all-sent ranked s own (inr own) (inr own)) m in
+    let e = every-mem ranked (sentBy s) (every-sent ranked s own (inr own) (inr own)) m in
     ap₂ (λ (p i : ℕ). record { priority = p; identity = i })
     (eqb-true (h .priority) (s .priority) (fst-true _ _ e))
     (eqb-true (h .tiebreaker) (s .identity) (snd-true (eqb (h .priority) (s .priority)) _ e))
@@ -97,9 +97,9 @@ sent-reveal s h m e =
     (λ t. t)
     (λ t.
     let unset : Heartbeat → Bool = λ x. not (isSet (x .reveal)) in
-    absurd (clash e (not-true (isSet (h .reveal)) (all-mem unset (sentBy s) (all-sent unset s refl (inl t) (inr refl)) m))))
+    absurd (clash e (not-true (isSet (h .reveal)) (every-mem unset (sentBy s) (every-sent unset s refl (inl t) (inr refl)) m))))
 
 -- without a pass, BS is nobody's
 pub sent-unmarked : (s : Server) (h : Heartbeat) → List·Memᴰ h (sentBy s) → s .pass ≡ 0 → h .bs ≡ 0
 sent-unmarked s h m z =
-    eqb-true (h .bs) 0 (all-mem (λ x. eqb (x .bs) 0) (sentBy s) (all-sent (λ x. eqb (x .bs) 0) s refl (inr refl) (inl z)) m)
+    eqb-true (h .bs) 0 (every-mem (λ x. eqb (x .bs) 0) (sentBy s) (every-sent (λ x. eqb (x .bs) 0) s refl (inr refl) (inl z)) m)

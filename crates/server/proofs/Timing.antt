@@ -1,8 +1,8 @@
 -- The three timers one after the other. Assumes nothing.
 use mathlib.Core.Path.{_≡_, ap, _∙_}
 use Prim.Native.Nat.{ℕ}
-use Rattle.server.specs.declared.Event.{Event}
-use Rattle.server.specs.declared.Period.{Period}
+use Rattle.roles.specs.declared.Event.{Event}
+use Rattle.periods.specs.declared.Period.{Period}
 use Rattle.server.specs.declared.Server.{Server}
 use Rattle.server.specs.declared.Timed.{Timed}
 use Rattle.server.specs.Server.{after}

@@ -1,5 +1,4 @@
-pub mod Period
 pub mod Server
+pub mod Hearing
 pub mod Timers
 pub mod Verbs
-pub mod Words

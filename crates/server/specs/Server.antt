@@ -1,4 +1,4 @@
--- One server: its roles, its timers, what it sent in this frame, and what an event makes of it.
+-- One server: its timers, what it sent in this frame, and what an event makes of it.
 use mathlib.Core.Bool.{Bool, true, false, not}
 use mathlib.Core.List.{List, [], _∷_, _++_}
 use mathlib.Core.Path.{_≡_}
@@ -9,26 +9,12 @@ use Rattle.lists.specs.Choice.{choose}
 use Rattle.refusal.specs.Answer.{ofVerdict}
 use Rattle.heartbeat.specs.declared.Rank.{Rank}
 use Rattle.heartbeat.specs.declared.Heartbeat.{Heartbeat}
-use Rattle.server.specs.declared.Role.{Role}
-use Rattle.server.specs.declared.Role.the-variants.{Down, Idle, Sync, Backup, Prospect, Primary}
-use Rattle.server.specs.declared.Event.{Event}
-use Rattle.server.specs.declared.Event.the-variants.{Nothing, ToBackup, ToProspectBeat, ToProspectReveal, Lower, Beat, ToPrimary, ToSync, ToIdle, ToDown, Passed}
+use Rattle.roles.specs.declared.Role.{Role}
+use Rattle.roles.specs.declared.Role.the-variants.{Down, Idle, Sync, Backup, Prospect, Primary}
+use Rattle.roles.specs.declared.Event.{Event}
+use Rattle.roles.specs.declared.Event.the-variants.{Nothing, ToBackup, ToProspectBeat, ToProspectReveal, Lower, Beat, ToPrimary, ToSync, ToIdle, ToDown, Passed}
 use Rattle.server.specs.declared.Server.{Server}
 use Rattle.server.specs.declared.Made.{Made}
-
--- The paper's detector states, for a reader: nothing cites them. `idles` is its Idle; `none` is that of a server that is down. BeaterSuspected "is passed through
--- inside a step and is never seen after it".
-pub data Detector : Type 0 where
-  none idles beaterOK heartbeating : Detector
-
--- "A server is down, or in one of five roles, each with one detector state between calls"
-abbrev pub detector : Role → Detector
-detector Down = none
-detector Idle = idles
-detector Sync = idles
-detector Backup = beaterOK
-detector Prospect = heartbeating
-detector Primary = heartbeating
 
 abbrev pub rankOf : Server → Rank
 rankOf s = record { priority = s .priority; identity = s .identity }

@@ -3,14 +3,14 @@ use mathlib.Core.Bool.{Bool}
 use Prim.Native.Nat.{ℕ, _+_}
 use lib.Dec.{eqb}
 use Rattle.lists.specs.Choice.{choose}
-use Rattle.server.specs.declared.Role.{Role}
-use Rattle.server.specs.declared.Role.the-variants.{Down, Idle, Sync, Backup, Prospect, Primary}
-use Rattle.server.specs.declared.Event.{Event}
-use Rattle.server.specs.declared.Event.the-variants.{Nothing, ToProspectReveal, Beat, ToPrimary}
-use Rattle.server.specs.declared.Period.{Period}
+use Rattle.roles.specs.declared.Role.{Role}
+use Rattle.roles.specs.declared.Role.the-variants.{Down, Idle, Sync, Backup, Prospect, Primary}
+use Rattle.roles.specs.declared.Event.{Event}
+use Rattle.roles.specs.declared.Event.the-variants.{Nothing, ToProspectReveal, Beat, ToPrimary}
+use Rattle.periods.specs.declared.Period.{Period}
 use Rattle.server.specs.declared.Server.{Server}
 use Rattle.server.specs.declared.Timed.{Timed}
-use Rattle.server.specs.Period.{silenceLimit, prospectLimit, beatLimit}
+use Rattle.periods.specs.Period.{silenceLimit, prospectLimit, beatLimit}
 use Rattle.server.specs.Server.{after}
 
 -- a timer set in frame s has this age in frame t

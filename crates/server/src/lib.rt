@@ -1,77 +1,20 @@
-// One server: what its timers do, what verbs make of it, what it sends. What it hears is in `hearing`.
+// One server: what it hears, what its timers do, what verbs make of it, what it sends.
 use heartbeat::Heartbeat;
 use heartbeat::Rank;
+use periods::Period;
 use refusal::Refusal;
 use refusal::Verdict;
+use roles::Allowed;
+use roles::Event;
+use roles::Role;
+use roles::Verb;
 ghost use mathlib.Core.Path.{_≡_};
-ghost use Prim.Native.Nat.{_<_, _≤_};
 ghost use Rattle.lists.specs.Choice.{choose};
-ghost use Rattle.refusal.specs.Answer.{numberOf};
-ghost use Rattle.server.specs.Period.{ofPeriod, takePeriod, shortest, beatLimit, silenceLimit, prospectLimit};
+ghost use Rattle.roles.specs.Verbs.{enters};
 ghost use Rattle.server.specs.Server.{absent, idle, Makes, rankOf, inRole, oneMore, sendBeat, toProspect, cleared, plainOf, revealOf, passOf, sentAny, after};
+ghost use Rattle.server.specs.Hearing.{fromHigher, fromLower, forThis, backupHears, prospectHears, primaryHears, hears, attending, heard};
 ghost use Rattle.server.specs.Timers.{silent, beating, rising, timed};
-ghost use Rattle.server.specs.Verbs.{roleNumber, verbNumber, cell, ofCell, enters, entering, verbEvent, paired, verbAnswer, refusing, Acts};
-ghost use Rattle.server.specs.Words.{said};
-
-// What a server is to its group.
-pub enum Role {
-    Down,
-    Idle,
-    Sync,
-    Backup,
-    Prospect,
-    Primary,
-}
-
-// What happens to a server in a step.
-pub enum Event {
-    Nothing,
-    ToBackup,
-    ToProspectBeat,
-    ToProspectReveal,
-    Lower,
-    Beat,
-    ToPrimary,
-    ToSync,
-    ToIdle,
-    ToDown,
-    Passed(u16),
-}
-
-// What may be entered of a server.
-pub enum Verb {
-    Start,
-    Ready,
-    Unready,
-    Pass,
-    Crash,
-    Restart,
-    Cut,
-    Mend,
-}
-
-// What the sheet says.
-pub enum Word {
-    Sync,
-    Backup,
-    Prospect,
-    Primary,
-    Idle,
-    Down,
-    Beat,
-    Reveal,
-    Pass,
-    Lower,
-    Cut,
-    Mended,
-}
-
-// The words of an event.
-pub enum Said {
-    Nothing,
-    One(Word),
-    Two(Word, Word),
-}
+ghost use Rattle.server.specs.Verbs.{verbAnswer, refusing, Acts};
 
 // A timer is the frame it was set in. The last three fields are what was sent in this frame: plain beats, a reveal, a pass (0: none).
 // A place with no server has identity 0 and is down.
@@ -87,21 +30,16 @@ pub struct Server {
     pub pass: u16,
 }
 
-// The period of a channel, in frames. `Period::of` and `Period::shortest` make it; no other crate can by itself.
-pub struct Period {
-    frames: u8,
-}
-
-// A period, or 2.
-pub enum PeriodAnswer {
-    Is(Period),
-    Refused(Refusal),
-}
-
 // A new server, or an empty place.
 pub struct Made {
     pub verdict: Verdict,
     pub server: Server,
+}
+
+// A server after a heartbeat, and what happened.
+pub struct Heard {
+    pub server: Server,
+    pub event: Event,
 }
 
 // A server after the timers of a frame, and what each did, in their order.
@@ -117,57 +55,6 @@ pub struct Acted {
     pub verdict: Verdict,
     pub server: Server,
     pub event: Event,
-}
-
-impl Period {
-    // The shortest and the longest period.
-    pub const MIN: u32 = 2;
-
-    pub const MAX: u32 = 250;
-
-    pub fn of(frames: u32) -> PeriodAnswer
-        ensures { λ r. ⌜ ofPeriod r ≡ takePeriod frames ⌝ }
-    {
-        if frames < Period::MIN {
-            return PeriodAnswer::Refused(Refusal::Number);
-        }
-        if frames > Period::MAX {
-            return PeriodAnswer::Refused(Refusal::Number);
-        }
-        PeriodAnswer::Is(Period {
-            frames: frames as u8,
-        })
-    }
-
-    // The shortest period there is.
-    pub fn shortest() -> Period
-        ensures { λ r. ⌜ r ≡ shortest ⌝ }
-    {
-        Period {
-            frames: Period::MIN as u8,
-        }
-    }
-
-    // The beat age at which a plain beat is sent.
-    pub fn beat_limit(self) -> u32
-        ensures { λ r. ⌜ r ≡ beatLimit self ⌝ }
-    {
-        self.frames as u32
-    }
-
-    // The silence age at which a backup suspects.
-    pub fn silence_limit(self) -> u32
-        ensures { λ r. ⌜ r ≡ silenceLimit self ⌝ }
-    {
-        2 * (self.frames as u32)
-    }
-
-    // The prospect age at which a prospect becomes primary.
-    pub fn prospect_limit(self) -> u32
-        ensures { λ r. ⌜ r ≡ prospectLimit self ⌝ }
-    {
-        2 * (self.frames as u32)
-    }
 }
 
 // ---- what an event makes of a server
@@ -372,6 +259,106 @@ impl Server {
         }
     }
 
+    // ---- hearing
+
+    fn from_higher(self, h: Heartbeat) -> bool
+        ensures { λ r. ⌜ r ≡ fromHigher self h ⌝ }
+    {
+        let sender = h.sender();
+        let hearer = self.rank();
+        sender.higher(hearer)
+    }
+
+    fn from_lower(self, h: Heartbeat) -> bool
+        ensures { λ r. ⌜ r ≡ fromLower self h ⌝ }
+    {
+        let sender = h.sender();
+        let hearer = self.rank();
+        hearer.higher(sender)
+    }
+
+    fn for_this(self, h: Heartbeat) -> bool
+        ensures { λ r. ⌜ r ≡ forThis self h ⌝ }
+    {
+        (h.bs != 0) & (h.bs == self.identity)
+    }
+
+    fn backup_hears(self, h: Heartbeat) -> Event
+        ensures { λ r. ⌜ r ≡ backupHears self h ⌝ }
+    {
+        if self.for_this(h) {
+            Event::ToProspectBeat
+        } else if h.reveals() & self.from_lower(h) {
+            Event::ToProspectReveal
+        } else {
+            Event::Nothing
+        }
+    }
+
+    fn prospect_hears(self, h: Heartbeat) -> Event
+        ensures { λ r. ⌜ r ≡ prospectHears self h ⌝ }
+    {
+        if self.from_higher(h) {
+            Event::ToBackup
+        } else {
+            Event::Nothing
+        }
+    }
+
+    fn primary_hears(self, h: Heartbeat) -> Event
+        ensures { λ r. ⌜ r ≡ primaryHears self h ⌝ }
+    {
+        if self.from_higher(h) {
+            Event::ToBackup
+        } else if self.from_lower(h) {
+            Event::Lower
+        } else {
+            Event::Nothing
+        }
+    }
+
+    fn hears(self, h: Heartbeat) -> Event
+        ensures { λ r. ⌜ r ≡ hears self h ⌝ }
+    {
+        let role = self.role;
+        match role {
+            Role::Down => Event::Nothing,
+            Role::Idle => Event::Nothing,
+            Role::Sync => Event::Nothing,
+            Role::Backup => self.backup_hears(h),
+            Role::Prospect => self.prospect_hears(h),
+            Role::Primary => self.primary_hears(h),
+        }
+    }
+
+    // A backup that hears sets its silence timer.
+    fn attending(self, frame: u32) -> Server
+        ensures { λ r. ⌜ r ≡ attending frame (self .role) self ⌝ }
+    {
+        let role = self.role;
+        match role {
+            Role::Down => self,
+            Role::Idle => self,
+            Role::Sync => self,
+            Role::Backup => {
+                let mut backup = self;
+                backup.silence = frame;
+                backup
+            }
+            Role::Prospect => self,
+            Role::Primary => self,
+        }
+    }
+
+    // One heartbeat, heard in a frame.
+    pub fn hear(self, frame: u32, h: Heartbeat) -> Heard
+        ensures { λ r. ⌜ r ≡ heard frame self h ⌝ }
+    {
+        let event = self.hears(h);
+        let server = self.attending(frame).after(frame, event);
+        Heard { server, event }
+    }
+
     // ---- timers
 
     fn silent(self, frame: u32, period: Period) -> Event
@@ -392,7 +379,7 @@ impl Server {
     fn beating(self, frame: u32, period: Period) -> Event
         ensures { λ r. ⌜ r ≡ beating frame period self ⌝ }
     {
-        let due = (self.beat as u64) + (period.frames as u64) == (frame as u64);
+        let due = (self.beat as u64) + (period.beat_limit() as u64) == (frame as u64);
         let role = self.role;
         match role {
             Role::Down => Event::Nothing,
@@ -446,120 +433,6 @@ fn when(due: bool, event: Event) -> Event
 
 // ---- verbs
 
-// The table of roles against verbs: for each role, in the order of Role, and each verb, in the order of Verb, the number of the role that is
-// entered, or kept by `cut` and `mend` (0 to 5), or of the refusal (12 to 14).
-const TABLE: [[u8; 8]; 6] = [
-    [12, 12, 12, 12, 12, 1, 0, 0],
-    [2, 14, 14, 14, 0, 13, 1, 1],
-    [14, 3, 14, 14, 0, 13, 2, 2],
-    [14, 14, 2, 14, 0, 13, 3, 3],
-    [14, 14, 14, 14, 0, 13, 4, 4],
-    [14, 14, 14, 3, 0, 13, 5, 5],
-];
-
-// The number of a role.
-pub fn role_number(role: Role) -> u32
-    ensures { λ r. ⌜ r ≡ roleNumber role ⌝ }
-{
-    match role {
-        Role::Down => 0,
-        Role::Idle => 1,
-        Role::Sync => 2,
-        Role::Backup => 3,
-        Role::Prospect => 4,
-        Role::Primary => 5,
-    }
-}
-
-fn verb_number(verb: Verb) -> usize
-    ensures { λ r. ⌜ r ≡ verbNumber verb ⌝ }
-{
-    match verb {
-        Verb::Start => 0,
-        Verb::Ready => 1,
-        Verb::Unready => 2,
-        Verb::Pass => 3,
-        Verb::Crash => 4,
-        Verb::Restart => 5,
-        Verb::Cut => 6,
-        Verb::Mend => 7,
-    }
-}
-
-fn cell(role: usize, verb: usize) -> u8
-    requires { ⌜ (role < 6) × (verb < 8) ⌝ }
-    ensures { λ r. ⌜ r ≡ cell role verb ⌝ }
-{
-    TABLE[role][verb]
-}
-
-// The cell of a role and a verb.
-fn entered(verb: Verb, role: Role) -> u8
-    ensures { λ r. ⌜ (ofCell r ≡ enters verb role) × (r < 15) ⌝ }
-{
-    cell(role_number(role) as usize, verb_number(verb))
-}
-
-// The refusal of a cell.
-fn refusal_of(n: u8) -> Refusal
-    requires { ⌜ (12 ≤ n) × (n < 15) ⌝ }
-    ensures { λ r. ⌜ numberOf r ≡ n ⌝ }
-{
-    if n == 12 {
-        Refusal::Down
-    } else if n == 13 {
-        Refusal::Up
-    } else {
-        Refusal::Role
-    }
-}
-
-// The event of entering the role with the number k.
-fn entering(k: u8) -> Event
-    ensures { λ r. ⌜ r ≡ entering k ⌝ }
-{
-    if k == 0 {
-        Event::ToDown
-    } else if k == 1 {
-        Event::ToIdle
-    } else if k == 2 {
-        Event::ToSync
-    } else {
-        Event::ToBackup
-    }
-}
-
-fn verb_event(verb: Verb, to: u16, k: u8) -> Event
-    ensures { λ r. ⌜ r ≡ verbEvent verb to k ⌝ }
-{
-    match verb {
-        Verb::Start => entering(k),
-        Verb::Ready => entering(k),
-        Verb::Unready => entering(k),
-        Verb::Pass => Event::Passed(to),
-        Verb::Crash => entering(k),
-        Verb::Restart => entering(k),
-        Verb::Cut => Event::Nothing,
-        Verb::Mend => Event::Nothing,
-    }
-}
-
-// Whether the verb has two identities.
-pub fn paired(verb: Verb) -> bool
-    ensures { λ r. ⌜ r ≡ paired verb ⌝ }
-{
-    match verb {
-        Verb::Start => false,
-        Verb::Ready => false,
-        Verb::Unready => false,
-        Verb::Pass => true,
-        Verb::Crash => false,
-        Verb::Restart => false,
-        Verb::Cut => true,
-        Verb::Mend => true,
-    }
-}
-
 impl Server {
     fn refused(self, k: Refusal) -> Acted
         ensures { λ r. ⌜ r ≡ refusing self k ⌝ }
@@ -576,16 +449,16 @@ impl Server {
         ensures { λ r. ⌜ Acts verb frame to self (enters verb (self .role)) r ⌝ }
     {
         let role = self.role;
-        let n = entered(verb, role);
-        if n < 12 {
-            let event = verb_event(verb, to, n);
-            Acted {
-                verdict: Verdict::Accepted,
-                server: self.after(frame, event),
-                event,
+        match roles::by_table(verb, role) {
+            Allowed::To(k) => {
+                let event = roles::verb_event(verb, to, k);
+                Acted {
+                    verdict: Verdict::Accepted,
+                    server: self.after(frame, event),
+                    event,
+                }
             }
-        } else {
-            self.refused(refusal_of(n))
+            Allowed::Refused(k) => self.refused(k),
         }
     }
 
@@ -593,7 +466,7 @@ impl Server {
     pub fn act(self, verb: Verb, frame: u32, to: u16) -> Acted
         ensures { λ r. ⌜ Acts verb frame to self (verbAnswer verb to self) r ⌝ }
     {
-        let pair = paired(verb);
+        let pair = roles::paired(verb);
         if (self.identity == 0) | (pair & (to == 0)) {
             return self.refused(Refusal::Number);
         }
@@ -637,28 +510,5 @@ impl Server {
         ensures { λ r. ⌜ Acts Verb.Restart 0 0 self (verbAnswer Verb.Restart 0 self) r ⌝ }
     {
         self.act(Verb::Restart, 0, 0)
-    }
-}
-
-// ---- words
-
-impl Event {
-    // What the sheet says of it.
-    pub fn said(self) -> Said
-        ensures { λ r. ⌜ r ≡ said self ⌝ }
-    {
-        match self {
-            Event::Nothing => Said::Nothing,
-            Event::ToBackup => Said::One(Word::Backup),
-            Event::ToProspectBeat => Said::Two(Word::Prospect, Word::Beat),
-            Event::ToProspectReveal => Said::Two(Word::Prospect, Word::Reveal),
-            Event::Lower => Said::One(Word::Lower),
-            Event::Beat => Said::One(Word::Beat),
-            Event::ToPrimary => Said::One(Word::Primary),
-            Event::ToSync => Said::One(Word::Sync),
-            Event::ToIdle => Said::One(Word::Idle),
-            Event::ToDown => Said::One(Word::Down),
-            Event::Passed(_) => Said::Two(Word::Pass, Word::Backup),
-        }
     }
 }

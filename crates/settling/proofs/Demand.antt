@@ -8,18 +8,17 @@ use native.Mathlib.Omega.{arith}
 use borrow.Author.Tests.{eq-eqb}
 use lib.Dec.{eqb}
 use lib.ListN.{length, getD-replicate}
-use Rattle.lists.proofs.Cases.{chosen, fst-true, snd-true, on, clash}
-use Rattle.server.specs.declared.Period.{Period}
-use Rattle.server.specs.Period.{silenceLimit, prospectLimit}
+use Rattle.lists.proofs.Cases.{less, chosen, fst-true, snd-true, on, clash}
+use Rattle.periods.specs.declared.Period.{Period}
+use Rattle.periods.specs.Period.{silenceLimit, prospectLimit}
 use Rattle.group.specs.declared.State.{State}
 use Rattle.group.specs.Outcome.{numberIn}
-use Rattle.group.specs.Table.{most, tableOf, fresh}
+use Rattle.group.specs.Table.{most, fresh}
 use Rattle.group.specs.Hearing.{place, linkOf}
 use Rattle.group.specs.Frame.{advanced}
 use Rattle.group.specs.Advance.{advancedBy}
 use Rattle.group.specs.Calls.{Call, verb, advance, advanceTo, outcomeOf, sliceOf, callNumber, callChannel, channelAfter}
 use Rattle.group.proofs.Laws.{every-call-keeps-the-table}
-use Rattle.group.proofs.Made.{neat-table}
 use Rattle.traces.specs.Settling.{Settled}
 use Rattle.reached.proofs.Sound.{Sound, AllWhole}
 use Rattle.reached.proofs.Run.{runs, traceOf, frame-run, rank-run}
@@ -77,8 +76,8 @@ period-after c (k ∷ ks) = period-after (callChannel c k) ks ∙ every-call-kee
 -- ---- links
 
 pub links-are-as-cut : LinksAreAsCut
-links-are-as-cut n rs ks ok i j li lj =
-    links-after (fresh (tableOf rs) n) ks (sound-fresh (tableOf rs) n (neat-table rs) ok) i j li lj false
+links-are-as-cut n t ks ok i j li lj =
+    links-after (fresh t n) ks (sound-fresh t n ok) i j li lj false
     (getD-replicate (most * most) (linkOf i j) true false (omega arith))
 
 -- ---- the theorem
@@ -99,6 +98,7 @@ module _ (n : ℕ) (c : State) (sound : Sound c) (links : AllWhole c) (same : c 
       record {
         server = s .primary;
         known = s .known;
+        seated = on (less 0 (place c (s .primary) .identity)) (λ l. l) (λ l. absurd (sound .seated (s .primary) (s .known) (s .active) (omega arith)));
         was = s .active;
         led = λ ls e late.
             let r = frames-only c ls e in
@@ -109,20 +109,20 @@ module _ (n : ℕ) (c : State) (sound : Sound c) (links : AllWhole c) (same : c 
       }
 
 pub settles : DemandThree
-settles n rs ks ok uncut i l a =
+settles n t ks ok uncut i l a =
     settled n c sound links (ap (λ (p : Period). p .frames) (period-after first ks)) (channel-settles c sound links i l a)
   where
     first : State
-    first = fresh (tableOf rs) n
+    first = fresh t n
 
     c : State
     c = channelAfter first ks
 
     begun : Sound first
-    begun = sound-fresh (tableOf rs) n (neat-table rs) ok
+    begun = sound-fresh t n ok
 
     sound : Sound c
     sound = sound-after first ks begun
 
     links : AllWhole c
-    links i j li lj = links-are-as-cut n rs ks ok i j li lj ∙ ap not (uncut (place first i .identity) (place first j .identity))
+    links i j li lj = links-are-as-cut n t ks ok i j li lj ∙ ap not (uncut (place first i .identity) (place first j .identity))

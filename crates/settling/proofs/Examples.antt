@@ -10,10 +10,10 @@ use Rattle.lists.specs.Lists.{same}
 use Rattle.lists.proofs.Cases.{tested, other, fst-true, snd-true, on, same-choice}
 use Rattle.lists.proofs.SameLoop.{same-equal}
 use Rattle.heartbeat.specs.declared.Rank.{Rank}
-use Rattle.server.specs.declared.Verb.the-variants.{Start, Ready, Unready, Pass, Crash, Restart, Cut, Mend}
-use Rattle.server.specs.Period.{takePeriod}
+use Rattle.roles.specs.declared.Verb.the-variants.{Start, Ready, Unready, Pass, Crash, Restart, Cut, Mend}
+use Rattle.periods.specs.Period.{takePeriod}
 use Rattle.group.specs.declared.State.{State}
-use Rattle.group.specs.Table.{placeIn, standsBefore, enter, addRefusal, added, withServers, tableOf, freshRefusal}
+use Rattle.group.specs.Table.{placeIn, standsBefore, enter, anew, isNew, follows, rises, isTable, addRefusal, added, withServers, tableOf, freshRefusal}
 use Rattle.group.specs.Frame.{advanced}
 use Rattle.group.specs.Calls.{Call, verb, advance, advanceTo, callNumber, callChannel, channelAfter}
 use Rattle.reached.proofs.Worked.{says, computed}
@@ -97,11 +97,11 @@ mended rs ks e u a b =
     (λ t. untouched a b (opened rs) ks false (u a b t))
 
 taken-three : freshRefusal (tableOf threeHighest) 3 ≡ 0
-unfolding choose freshRefusal takePeriod placeIn standsBefore enter addRefusal added withServers
+unfolding choose freshRefusal takePeriod placeIn standsBefore enter anew isNew follows rises isTable addRefusal added withServers
 taken-three = refl
 
 taken-two : freshRefusal (tableOf twoHighest) 3 ≡ 0
-unfolding choose freshRefusal takePeriod placeIn standsBefore enter addRefusal added withServers
+unfolding choose freshRefusal takePeriod placeIn standsBefore enter anew isNew follows rises isTable addRefusal added withServers
 taken-two = refl
 
 pub examples : Examples

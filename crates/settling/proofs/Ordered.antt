@@ -8,7 +8,7 @@ use lib.ListN.{replicate, replicate-append-replicate}
 use Rattle.lists.specs.Choice.{choose}
 use Rattle.lists.proofs.Cases.{chosen, other}
 use Rattle.heartbeat.specs.declared.Heartbeat.{Heartbeat}
-use Rattle.server.specs.declared.Event.the-variants.{Nothing, ToBackup, ToProspectBeat, ToProspectReveal, Lower, Beat, ToPrimary, ToSync, ToIdle, ToDown, Passed}
+use Rattle.roles.specs.declared.Event.the-variants.{Nothing, ToBackup, ToProspectBeat, ToProspectReveal, Lower, Beat, ToPrimary, ToSync, ToIdle, ToDown, Passed}
 use Rattle.server.specs.declared.Server.{Server}
 use Rattle.server.specs.Server.{plainOf, revealOf, passOf, sendPass, mostBeats, oneMore, sentBy, after}
 use Rattle.settling.specs.Sending.{Appends}

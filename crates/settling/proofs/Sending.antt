@@ -9,33 +9,32 @@ use borrow.Author.Tests.{eqb-true, eqb-false, lt-ltb, le-ltb}
 use lib.Dec.{eqb, ltb}
 use lib.ListN.{getD, List·getD-eq-default}
 use Rattle.lists.specs.Choice.{choose}
-use Rattle.lists.specs.Lists.{all}
+use Rattle.lists.specs.Lists.{every}
 use Rattle.lists.proofs.Cases.{tested, less, chosen, other, and-true, fst-true, snd-true, on, clash, by-choice, not-first, or-false}
-use Rattle.lists.proofs.Clear.{all-front}
+use Rattle.lists.proofs.Clear.{every-front}
 use Rattle.refusal.specs.Answer.{Answer}
 use Rattle.heartbeat.specs.declared.Rank.{Rank}
 use Rattle.heartbeat.specs.declared.Heartbeat.{Heartbeat}
 use Rattle.heartbeat.specs.Heartbeat.{isSet}
-use Rattle.server.specs.declared.Role.{Role}
-use Rattle.server.specs.declared.Role.the-variants.{Down, Idle, Sync, Backup, Prospect, Primary}
-use Rattle.server.specs.declared.Verb.{Verb}
-use Rattle.server.specs.declared.Verb.the-variants.{Start, Ready, Unready, Pass, Crash, Restart, Cut, Mend}
-use Rattle.server.specs.declared.Event.the-variants.{Nothing, ToBackup, ToProspectBeat, ToProspectReveal, Lower, Beat}
-use Rattle.server.specs.declared.Period.{Period}
+use Rattle.roles.specs.declared.Role.{Role}
+use Rattle.roles.specs.declared.Role.the-variants.{Down, Idle, Sync, Backup, Prospect, Primary}
+use Rattle.roles.specs.declared.Verb.{Verb}
+use Rattle.roles.specs.declared.Verb.the-variants.{Start, Ready, Unready, Pass, Crash, Restart, Cut, Mend}
+use Rattle.roles.specs.declared.Event.the-variants.{Nothing, ToBackup, ToProspectBeat, ToProspectReveal, Lower, Beat}
+use Rattle.periods.specs.declared.Period.{Period}
 use Rattle.server.specs.declared.Server.{Server}
-use Rattle.server.specs.Period.{silenceLimit, prospectLimit, beatLimit}
+use Rattle.periods.specs.Period.{silenceLimit, prospectLimit, beatLimit}
 use Rattle.server.specs.Server.{absent, setSilence, cleared, oneMore, sentBy, after}
-use Rattle.hearing.specs.Hearing.{fromHigher, fromLower, forThis, backupHears, prospectHears, primaryHears, hearsIn, hears, attending, heard}
+use Rattle.server.specs.Hearing.{fromHigher, fromLower, forThis, backupHears, prospectHears, primaryHears, hearsIn, hears, attending, heard, heardAll}
 use Rattle.server.specs.Timers.{aged, silentIn, beatingIn, risingIn, afterSilent, afterBeating}
-use Rattle.server.specs.Verbs.{from, enters, entering, verbEvent, verbHappens, verbAnswer}
+use Rattle.roles.specs.Verbs.{from, enters, entering, verbEvent, verbHappens}
+use Rattle.server.specs.Verbs.{verbAnswer}
 use Rattle.group.specs.declared.State.{State}
-use Rattle.group.specs.Table.{tableOf, fresh}
+use Rattle.group.specs.Table.{fresh}
 use Rattle.group.specs.Hearing.{place, inbox}
-use Rattle.group.specs.Frame.{heardAll}
 use Rattle.group.specs.Verbs.{placeOf, happens}
 use Rattle.group.specs.Calls.{channelAfter}
 use Rattle.group.proofs.Laws.{rank-heard}
-use Rattle.group.proofs.Made.{neat-table}
 use Rattle.traces.specs.Trace.{isActive, isBeating}
 use Rattle.traces.proofs.Ways as ways
 use Rattle.group.proofs.Inbox.{Falls}
@@ -214,7 +213,7 @@ rest-of [] = []
 rest-of (h ∷ l) = l
 
 prefix-parts :
-    (s : Server) (a b u w : List Heartbeat) → a ++ b ≡ u ++ w → all (fromHigher s) u ≡ true → all (fromLower s) w ≡ true → Falls s a
+    (s : Server) (a b u w : List Heartbeat) → a ++ b ≡ u ++ w → every (fromHigher s) u ≡ true → every (fromLower s) w ≡ true → Falls s a
 unfolding rest-of
 prefix-parts s [] b u w e f g = record { upper = []; under = []; parts = refl; highers = refl; lowers = refl }
 prefix-parts s (x ∷ a) b [] w e f g =
@@ -223,16 +222,16 @@ prefix-parts s (x ∷ a) b [] w e f g =
       under = x ∷ a;
       parts = refl;
       highers = refl;
-      lowers = all-front (fromLower s) (x ∷ a) b (ap (all (fromLower s)) e ∙ g);
+      lowers = every-front (fromLower s) (x ∷ a) b (ap (every (fromLower s)) e ∙ g);
     }
 prefix-parts s (x ∷ a) b (y ∷ u) w e f g =
-    let r = prefix-parts s a b u w (ap rest-of e) (snd-true (fromHigher s y) (all (fromHigher s) u) f) g in
+    let r = prefix-parts s a b u w (ap rest-of e) (snd-true (fromHigher s y) (every (fromHigher s) u) f) g in
     record {
       upper = x ∷ r .upper;
       under = r .under;
       parts = ap (λ (l : List Heartbeat). x ∷ l) (r .parts);
       highers = and-true
-          (ap (λ (l : List Heartbeat). fromHigher s (getD l 0 x)) e ∙ fst-true (fromHigher s y) (all (fromHigher s) u) f)
+          (ap (λ (l : List Heartbeat). fromHigher s (getD l 0 x)) e ∙ fst-true (fromHigher s y) (every (fromHigher s) u) f)
           (r .highers);
       lowers = r .lowers;
     }
@@ -352,9 +351,7 @@ module _ (c : State) (sound : Sound c) where
   in-order = record { begins = λ i l. begun (place c i); hearing = hearing-appends; timers = timers-append; verbs = verbs-append }
 
 pub sent-in-order : SentInOrder
-sent-in-order rs n ks ok =
-    let c = fresh (tableOf rs) n in in-order (channelAfter c ks) (sound-after c ks (sound-fresh (tableOf rs) n (neat-table rs) ok))
+sent-in-order t n ks ok = let c = fresh t n in in-order (channelAfter c ks) (sound-after c ks (sound-fresh t n ok))
 
 pub senders-always-differ : SendersAlwaysDiffer
-senders-always-differ rs n ks ok =
-    let c = fresh (tableOf rs) n in senders-differ (channelAfter c ks) (sound-after c ks (sound-fresh (tableOf rs) n (neat-table rs) ok))
+senders-always-differ t n ks ok = let c = fresh t n in senders-differ (channelAfter c ks) (sound-after c ks (sound-fresh t n ok))

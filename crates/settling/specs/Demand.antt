@@ -7,11 +7,11 @@ use mathlib.Core.List.{List, [], _∷_}
 use Prim.Native.Nat.{ℕ, _+_, _*_, _<_, _≤_}
 use lib.Dec.{eqb}
 use Rattle.lists.specs.Choice.{choose}
-use Rattle.heartbeat.specs.declared.Rank.{Rank}
-use Rattle.server.specs.declared.Role.the-variants.{Backup, Primary}
+use Rattle.roles.specs.declared.Role.the-variants.{Backup, Primary}
 use Rattle.server.specs.Server.{rankOf}
+use Rattle.group.specs.declared.Table.{Table}
 use Rattle.group.specs.declared.State.{State}
-use Rattle.group.specs.Table.{most, tableOf, freshRefusal, fresh}
+use Rattle.group.specs.Table.{most, freshRefusal, fresh}
 use Rattle.group.specs.Hearing.{place, over}
 use Rattle.group.specs.Frame.{advanced}
 use Rattle.group.specs.Advance.{advancedBy}
@@ -41,11 +41,11 @@ InThoseRoles c i = isActive (place c i .role) ≡ true
 abbrev pub NoneProspectOrPrimary : State → Type 0
 NoneProspectOrPrimary c = (i : ℕ) → i < most → isBeating (place c i .role) ≡ false
 
--- (demand 3) "it is the highest of them"
+-- (demand 3) "the highest of the servers that were in those roles after the list"
 abbrev pub HighestOfThem : State → ℕ → Type 0
 HighestOfThem c h = (i : ℕ) → i < most → InThoseRoles c i → (i ≡ h) ⊎ (over c h i ≡ true)
 
--- (demand 3) "exactly one server is primary, .. and each other that was in one of those roles is in backup": c is the channel after the
+-- (demand 3) "exactly one server is primary, .. and each other server that was in one of those roles after the list is in backup": c is the channel after the
 -- first list, d the one after the calls that follow, h the place of the one server. A place keeps its identity and its priority; that it
 -- has kept those of the table during the first list is `KeepsItsTable` of the crate group
 pub record Led (c : State) (h : ℕ) (d : State) : Type 0 where
@@ -54,28 +54,31 @@ pub record Led (c : State) (h : ℕ) (d : State) : Type 0 where
   pub backups : (i : ℕ) → i < most → i ≢ h → InThoseRoles c i → place d i .role ≡ Backup
   pub ranks : (i : ℕ) → i < most → rankOf (place d i) ≡ rankOf (place c i)
 
--- (demand 3) "4 periods and 2 frames later"
+-- (demand 3) "4 periods and 2 frames after the frame the list ends in"
 abbrev pub settlingTime : ℕ → ℕ
 settlingTime n = 4 * n + 2
 
--- the channel c is settled w frames later; (demand 3) "ever after exactly one server is primary, always the same"
+-- the channel c is settled w frames later; (demand 3) "always the same one"
 pub record Settles (w : ℕ) (c : State) : Type 0 where
   pub server : ℕ
   pub known : server < most
+  -- it is a server of the table: no empty place
+  pub seated : 0 < place c server .identity
   pub was : InThoseRoles c server
+  -- (demand 3) "if the day is that long, and in each later frame of it": a frame that calls do not reach is none of them
   pub led : (ls : List Call) → verbsRefused c ls ≡ true → c .frame + w ≤ channelAfter c ls .frame → Led c server (channelAfter c ls)
   -- "an accepted one over several frames is as many advances" (`AsManyAdvances` of the crate group): the frames inside of it, too. Said
   -- of every number of frames, also of one that the day is too short for
   pub within : (k : ℕ) → w ≤ k → Led c server (advancedBy k c)
-  -- (demand 3) "if none was prospect or primary one frame after the list, it is the highest of them"
+  -- (demand 3) "If at the end of the next frame after the one the list ends in none was prospect or primary, the one chosen is the highest"
   pub highest : NoneProspectOrPrimary (advanced c) → HighestOfThem c server
 
--- (demand 3) "After any list of calls from a fresh channel, refused ones included: with no link cut, some server in backup, prospect or
--- primary": a channel with the period n is settled w frames later. "any table and P that are not refused": the table has servers added one after the other
+-- (demand 3) "This holds for every list of calls from a fresh channel, refused ones included: suppose that after the list no link is cut and at least one
+-- server is in backup, prospect or primary": a channel with the period n is settled w frames later. "any table and P that are not refused"
 abbrev pub SettlesIn : ℕ → ℕ → Type 0
 SettlesIn n w =
-    (rs : List Rank) (ks : List Call) → freshRefusal (tableOf rs) n ≡ 0 → NoLinkCut (fresh (tableOf rs) n) ks →
-    (i : ℕ) → i < most → InThoseRoles (channelAfter (fresh (tableOf rs) n) ks) i → Settles w (channelAfter (fresh (tableOf rs) n) ks)
+    (t : Table) (ks : List Call) → freshRefusal t n ≡ 0 → NoLinkCut (fresh t n) ks →
+    (i : ℕ) → i < most → InThoseRoles (channelAfter (fresh t n) ks) i → Settles w (channelAfter (fresh t n) ks)
 
 -- demand 3, for every period
 abbrev pub DemandThree : Type 0

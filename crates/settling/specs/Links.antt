@@ -8,6 +8,6 @@ use Rattle.group.specs.Calls.{Call}
 pub use Rattle.reached.specs.Links.{cutByVerb}
 unfoldable pub use Rattle.reached.specs.Links.{cutByCall, cutAfter}
 
--- demand 3's "with no link cut": after the calls ks on the channel c, in which none was
+-- (demand 3) "after the list no link is cut": after the calls ks on the channel c, in which none was
 abbrev pub NoLinkCut : State → List Call → Type 0
 NoLinkCut c ks = (a b : ℕ) → cutAfter a b c ks false ≡ false

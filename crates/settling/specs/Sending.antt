@@ -2,19 +2,18 @@
 use mathlib.Core.Path.{_≡_}
 use mathlib.Core.List.{List, [], _∷_, _++_}
 use Prim.Native.Nat.{ℕ, _+_, _<_}
-use Rattle.heartbeat.specs.declared.Rank.{Rank}
 use Rattle.heartbeat.specs.declared.Heartbeat.{Heartbeat}
-use Rattle.server.specs.declared.Event.{Event}
-use Rattle.server.specs.declared.Event.the-variants.{Nothing, ToBackup, ToProspectBeat, ToProspectReveal, Lower, Beat, ToPrimary, ToSync, ToIdle, ToDown, Passed}
+use Rattle.roles.specs.declared.Event.{Event}
+use Rattle.roles.specs.declared.Event.the-variants.{Nothing, ToBackup, ToProspectBeat, ToProspectReveal, Lower, Beat, ToPrimary, ToSync, ToIdle, ToDown, Passed}
 use Rattle.server.specs.declared.Server.{Server}
-use Rattle.server.specs.declared.Verb.{Verb}
+use Rattle.roles.specs.declared.Verb.{Verb}
 use Rattle.server.specs.Server.{cleared, plainOf, revealOf, passOf, sendPass, sentBy, after}
-use Rattle.hearing.specs.Hearing.{hears, attending}
+use Rattle.server.specs.Hearing.{hears, attending, heardAll}
 use Rattle.server.specs.Timers.{silent, beating, rising, afterSilent, afterBeating}
+use Rattle.group.specs.declared.Table.{Table}
 use Rattle.group.specs.declared.State.{State}
-use Rattle.group.specs.Table.{most, tableOf, freshRefusal, fresh}
+use Rattle.group.specs.Table.{most, freshRefusal, fresh}
 use Rattle.group.specs.Hearing.{place, inbox}
-use Rattle.group.specs.Frame.{heardAll}
 use Rattle.group.specs.Verbs.{placeOf, happens}
 use Rattle.group.specs.Calls.{Call, channelAfter}
 use Rattle.group.specs.Laws.{SendersDiffer}
@@ -61,8 +60,8 @@ pub record AppendsAll (c : State) : Type 0 where
 
 -- after any list of calls from a fresh channel
 abbrev pub SentInOrder : Type 0
-SentInOrder = (rs : List Rank) (n : ℕ) (ks : List Call) → freshRefusal (tableOf rs) n ≡ 0 → AppendsAll (channelAfter (fresh (tableOf rs) n) ks)
+SentInOrder = (t : Table) (n : ℕ) (ks : List Call) → freshRefusal t n ≡ 0 → AppendsAll (channelAfter (fresh t n) ks)
 
 -- and then the servers that sent have different ranks, so that each of them is heard (`AllHearInOrder` of the crate group)
 abbrev pub SendersAlwaysDiffer : Type 0
-SendersAlwaysDiffer = (rs : List Rank) (n : ℕ) (ks : List Call) → freshRefusal (tableOf rs) n ≡ 0 → SendersDiffer (channelAfter (fresh (tableOf rs) n) ks)
+SendersAlwaysDiffer = (t : Table) (n : ℕ) (ks : List Call) → freshRefusal t n ≡ 0 → SendersDiffer (channelAfter (fresh t n) ks)

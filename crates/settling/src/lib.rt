@@ -1,5 +1,5 @@
 // A channel settles: demand 3, of the definitions of the group. The theorem stands in the contract of the figure.
-use server::Period;
+use periods::Period;
 ghost use Rattle.settling.specs.Figure.{SettlingFrames};
 
 // The frames within which a channel with this period comes to one primary, and ever after the same, where no link is cut, some server is in backup, prospect or

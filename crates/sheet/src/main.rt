@@ -1,256 +1,188 @@
 // A day on standard input, its sheet on standard output.
 //
-// What is printed is the feed's; this program only moves bytes. A proved loop has to end, and nothing says that an input does, so each loop
-// counts its turns down from a number that no run uses up.
+// What is printed is the printer's; this program only reads, calls it and writes. A proved loop has
+// to end, and nothing says that an input does, so each loop counts its turns down from a number
+// that no run uses up.
 use feed::Feed;
-use feed::Step;
+use group::Links;
+use group::Table;
 use libc::STDIN_FILENO;
 use libc::STDOUT_FILENO;
+use places::Packed;
 use text::Written;
 ghost use mathlib.Core.Path.{_≡_};
+ghost use Prim.Native.Nat.{_*_, _≤_};
 ghost use lib.ListN.{length};
+ghost use Rattle.feeding.specs.Bound.{stepBytes};
 
-// A day under way: the feed, how many bytes of the piece it has taken, how many bytes wait to be written, and whether all went well so far.
+// A day under way: where it stands, and whether it goes on: its sheet is not over, and all went
+// well so far.
 struct Run {
     feed: Feed,
-    used: usize,
-    waiting: usize,
-    well: bool,
+    goes: bool,
 }
 
-// Room for the bytes that wait: more than a step prints, so that a step that does not fit does once they are written.
-fn room() -> [u8; 524288]
-    ensures { λ r. ⌜ 524288 ≡ length r ⌝ }
+// A call of the printer: how many bytes of the piece it took, and the day then.
+struct Call {
+    used: usize,
+    feed: Feed,
+    goes: bool,
+}
+
+// Room for what one call prints: twice what a step needs, so that no call gets 9.
+fn room() -> [u8; 2 * Feed::STEP]
+    ensures { λ r. ⌜ 2 * stepBytes ≡ length r ⌝ }
 {
-    [0; 524288]
+    [0; 2 * Feed::STEP]
 }
 
 // Writes the first n bytes, or says that it cannot.
 fn flush(out: &[u8], n: usize) -> bool {
     let start = 0;
-    if n > out.len() {
-        return false;
+    if n <= out.len() {
+        if io::write_all(STDOUT_FILENO, &out[start..n]) {
+            return true;
+        }
     }
-    let well = io::write_all(STDOUT_FILENO, &out[start..n]);
-    if !well {
-        os::fail(b"sheet: the sheet cannot be written");
-    }
-    well
+    os::fail(b"sheet: the sheet cannot be written");
+    false
 }
 
-impl Run {
-    // It goes no further.
-    fn stuck(self) -> Run {
-        let mut next = self;
-        next.well = false;
-        next
-    }
-
-    // After a step: its bytes wait with the others. Where there was no room for it, what waits is written first.
-    fn after(self, step: Step, out: &[u8]) -> Run {
-        let written = step.written;
-        let feed = step.feed;
-        let waiting = self.waiting;
-        let mut next = self;
-        next.feed = feed;
-        match written {
-            Written::To(n) => {
-                if waiting > out.len() {
-                    return self.stuck();
-                }
-                if n > out.len() - waiting {
-                    return self.stuck();
-                }
-                next.waiting = waiting + n;
-            }
-            Written::Refused(_) => {
-                if waiting == 0 {
-                    return self.stuck();
-                }
-                let well = flush(out, waiting);
-                next.well = self.well & well;
-                next.waiting = 0;
-            }
-        }
-        next
-    }
-
-    // Steps of the line, if it waits to be done.
-    fn step(
-        self,
-        line: &[u8; 65],
-        words: &mut [u32; 80],
-        whole: &mut [bool; 256],
-        out: &mut [u8],
-    ) -> Run {
-        let from = self.waiting;
-        if from > out.len() {
-            return self.stuck();
-        }
-        let feed = self.feed;
-        let step = feed.steps(line, words, whole, &mut out[from..]);
-        self.after(step, out)
-    }
-
-    // Some bytes of the piece.
-    fn take(self, line: &mut [u8; 65], piece: &[u8]) -> Run {
-        let from = self.used;
-        if from > piece.len() {
-            return self.stuck();
-        }
-        let feed = self.feed;
-        let taken = feed.take(line, &piece[from..]);
-        let used = taken.used;
-        if used > piece.len() - from {
-            return self.stuck();
-        }
-        let more = taken.feed;
-        let mut next = self;
-        next.feed = more;
-        next.used = from + used;
-        next
-    }
-
-    // Bytes up to the end of a line, none where one waits to be done; and its steps.
-    fn turn(
-        self,
-        line: &mut [u8; 65],
-        words: &mut [u32; 80],
-        whole: &mut [bool; 256],
-        piece: &[u8],
-        out: &mut [u8],
-    ) -> Run {
-        let fed = self.take(line, piece);
-        fed.step(line, words, whole, out)
-    }
-
-    // Whether there is more to do with the piece.
-    fn goes_on(self, line: &[u8; 65], piece: &[u8]) -> bool {
-        let feed = self.feed;
-        self.well & (!feed.over() & (feed.waits(line) | (self.used < piece.len())))
-    }
-
-    // All of a piece.
-    fn run(
-        self,
-        line: &mut [u8; 65],
-        words: &mut [u32; 80],
-        whole: &mut [bool; 256],
-        piece: &[u8],
-        out: &mut [u8],
-    ) -> Run {
-        let mut now = self;
-        now.used = 0;
-        let mut turns = u64::MAX;
-        while (turns > 0) & now.goes_on(line, piece) {
-            let next = now.turn(line, words, whole, piece, out);
-            now = next;
-            turns -= 1;
-        }
-        now
-    }
-
-    // What waits, and the end of the input.
-    fn end(self, line: &[u8; 65], out: &mut [u8]) {
-        let well = flush(out, self.waiting);
-        if !(self.well & well) {
-            return;
-        }
-        let feed = self.feed;
-        let last = feed.finish(line, out);
-        let written = last.written;
-        match written {
-            Written::To(n) => {
-                flush(out, n);
-            }
-            Written::Refused(_) => {}
+// Writes what was printed. With so much room nothing is refused; were it so, that would be said.
+fn put(written: Written, out: &[u8]) -> bool {
+    match written {
+        Written::To(n) => flush(out, n),
+        Written::Refused(_) => {
+            os::fail(b"sheet: the next lines do not fit");
+            false
         }
     }
 }
 
-// A day under way, and whether input may follow.
-struct Read {
-    run: Run,
-    more: bool,
+// Whether turns are left, or says that there are none.
+fn lasts(turns: u64) -> bool {
+    if turns == 0 {
+        os::fail(b"sheet: the day takes more turns than can be counted");
+    }
+    turns > 0
+}
+
+// Prints as much as there is room for, and writes it.
+fn print_once(
+    feed: Feed,
+    line: &mut [u8; Feed::LINE],
+    words: &mut Packed,
+    whole: &mut Links,
+    piece: &[u8],
+    last: bool,
+    out: &mut [u8],
+) -> Call
+    ensures { λ r. ⌜ r .used ≤ length (now (piece .entry)) ⌝ }
+{
+    let printed = printer::print(feed, line, words, whole, piece, last, out);
+    let written = printed.written;
+    let next = printed.feed;
+    let well = put(written, out);
+    Call {
+        used: printed.used,
+        feed: next,
+        goes: well & !printed.over,
+    }
+}
+
+// All of a piece, and where it is the last, the end of the input.
+fn print_all(
+    feed: Feed,
+    line: &mut [u8; Feed::LINE],
+    words: &mut Packed,
+    whole: &mut Links,
+    piece: &[u8],
+    last: bool,
+    out: &mut [u8],
+) -> Run {
+    let mut now = feed;
+    let mut used: usize = 0;
+    let mut goes = true;
+    let mut turns = u64::MAX;
+    while (turns > 0) & (goes & (last | (used < piece.len()))) {
+        let call = print_once(now, line, words, whole, &piece[used..], last, out);
+        let next = call.feed;
+        now = next;
+        used += call.used;
+        goes = call.goes;
+        turns -= 1;
+    }
+    Run {
+        feed: now,
+        goes: goes & lasts(turns),
+    }
 }
 
 // Reads once, and does what came. A read that a signal cut short is made again.
 fn read_on(
-    run: Run,
-    line: &mut [u8; 65],
-    words: &mut [u32; 80],
-    whole: &mut [bool; 256],
+    feed: Feed,
+    line: &mut [u8; Feed::LINE],
+    words: &mut Packed,
+    whole: &mut Links,
     piece: &mut [u8],
     out: &mut [u8],
-) -> Read {
+) -> Run {
     let got = libc::read(STDIN_FILENO, piece);
-    if got > 0 {
+    if got >= 0 {
         let n = io::count(got, piece);
-        let next = run.run(line, words, whole, &piece[..n], out);
-        let feed = next.feed;
-        return Read {
-            run: next,
-            more: next.well & !feed.over(),
+        let run = print_all(feed, line, words, whole, &piece[..n], n == 0, out);
+        let next = run.feed;
+        return Run {
+            feed: next,
+            goes: run.goes & (n > 0),
         };
     }
-    if got == 0 {
-        return Read { run, more: false };
-    }
     if os::errno() == libc::EINTR {
-        return Read { run, more: true };
+        return Run { feed, goes: true };
     }
     os::fail(b"sheet: the day cannot be read");
-    let stuck = run.stuck();
-    Read {
-        run: stuck,
-        more: false,
-    }
+    Run { feed, goes: false }
 }
 
 // The whole input.
 fn read_all(
-    run: Run,
-    line: &mut [u8; 65],
-    words: &mut [u32; 80],
-    whole: &mut [bool; 256],
+    feed: Feed,
+    line: &mut [u8; Feed::LINE],
+    words: &mut Packed,
+    whole: &mut Links,
     piece: &mut [u8],
     out: &mut [u8],
-) -> Run {
-    let mut now = run;
-    let mut more = true;
+) {
+    let mut now = feed;
+    let mut goes = true;
     let mut turns = u64::MAX;
-    while (turns > 0) & more {
-        let read = read_on(now, line, words, whole, piece, out);
-        let next = read.run;
+    while (turns > 0) & goes {
+        let run = read_on(now, line, words, whole, piece, out);
+        let next = run.feed;
         now = next;
-        more = read.more;
+        goes = run.goes;
         turns -= 1;
     }
-    now
+    lasts(turns);
 }
 
 fn main() {
     let mut out = room();
     let mut piece = io::large_buffer();
-    let mut line = [0; 65];
-    let mut words = [0; 80];
-    let mut whole = [true; 256];
+    let mut line = [0; Feed::LINE];
+    let mut words = [0; places::PACKED];
+    let mut whole = [true; Table::LINKS];
     let begun = Feed::begin(&mut out);
+    let header = begun.written;
     let feed = begun.feed;
-    let run = Run {
-        feed,
-        used: 0,
-        waiting: 0,
-        well: true,
-    };
-    let headed = run.after(begun, &out);
-    let last = read_all(
-        headed,
-        &mut line,
-        &mut words,
-        &mut whole,
-        &mut piece,
-        &mut out,
-    );
-    last.end(&line, &mut out);
+    if put(header, &out) {
+        read_all(
+            feed,
+            &mut line,
+            &mut words,
+            &mut whole,
+            &mut piece,
+            &mut out,
+        );
+    }
 }

@@ -11,7 +11,7 @@ use lib.Dec.{leb, eqb}
 use lib.ListN.{length, getD, drop, drop-of-length-le}
 use lib.Seq.{drop-cons}
 use Rattle.lists.specs.Choice.{choose}
-use Rattle.lists.specs.Lists.{all}
+use Rattle.lists.specs.Lists.{every}
 use Rattle.lists.proofs.Cases.{tested, chosen, other, and-true, and-left, and-right, fst-true, snd-true, clash}
 use Rattle.refusal.specs.Answer.{Answer, accepted, refused}
 use Rattle.refusal.proofs.Answers.{took, declined}
@@ -44,7 +44,7 @@ bad-written [] e = refl
 bad-written (x ∷ []) e = absurd (clash e refl)
 bad-written (x ∷ y ∷ s) e = rw e
 
-good-written : (s : List ℕ) → badStart s ≡ false → wellWritten s ≡ all isDigit s
+good-written : (s : List ℕ) → badStart s ≡ false → wellWritten s ≡ every isDigit s
 unfolding badStart wellWritten
 good-written [] e = absurd (clash refl e)
 good-written (x ∷ []) e = one (isDigit x)
@@ -86,7 +86,7 @@ from-not hi n x s e =
     ⊎-elim
     (λ d.
     let over : hi < n * 10 + (x - 48) = leb-false (n * 10 + (x - 48)) hi (rw d at e) in
-    other _ (and-right (all isDigit (x ∷ s)) (lt-leb (valueFrom n (x ∷ s)) hi (omega (arith, over, value-grows (n * 10 + (x - 48)) s)))))
+    other _ (and-right (every isDigit (x ∷ s)) (lt-leb (valueFrom n (x ∷ s)) hi (omega (arith, over, value-grows (n * 10 + (x - 48)) s)))))
     (λ d. other _ (and-left _ (and-left _ d)))
     (tested (isDigit x))
 
@@ -153,14 +153,14 @@ module _ (lo hi : ℕ) (s : List ℕ) (good : false ≡ badStart s) where
   pub number-refused : (k : ℕ) → refused k ≡ readFrom hi 0 s → refused k ≡ readNumber lo hi s
   unfolding readNumber readFrom value
   number-refused k e =
-      let t = declined (all isDigit s && leb (valueFrom 0 s) hi) (valueFrom 0 s) 2 (sym e) in
-      ap refused (sym (t .1)) ∙ sym (other _ (fails (all isDigit s) (leb lo (valueFrom 0 s)) (leb (valueFrom 0 s) hi) (good-written s (sym good)) (t .0)))
+      let t = declined (every isDigit s && leb (valueFrom 0 s) hi) (valueFrom 0 s) 2 (sym e) in
+      ap refused (sym (t .1)) ∙ sym (other _ (fails (every isDigit s) (leb lo (valueFrom 0 s)) (leb (valueFrom 0 s) hi) (good-written s (sym good)) (t .0)))
 
   pub number-read : (n : ℕ) → accepted (n ∷ []) ≡ readFrom hi 0 s → atLeast lo n ≡ readNumber lo hi s
   unfolding readNumber readFrom atLeast value
   number-read n e =
-      let t = took (all isDigit s && leb (valueFrom 0 s) hi) (valueFrom 0 s) 2 (sym e) in
-      rw (good-written s (sym good), fst-true (all isDigit s) (leb (valueFrom 0 s) hi) (t .0), snd-true (all isDigit s) (leb (valueFrom 0 s) hi) (t .0), ← t .1) (lasts (leb lo (valueFrom 0 s)) _ _)
+      let t = took (every isDigit s && leb (valueFrom 0 s) hi) (valueFrom 0 s) 2 (sym e) in
+      rw (good-written s (sym good), fst-true (every isDigit s) (leb (valueFrom 0 s) hi) (t .0), snd-true (every isDigit s) (leb (valueFrom 0 s) hi) (t .0), ← t .1) (lasts (leb lo (valueFrom 0 s)) _ _)
 
 -- an accepted number is one that keeps the bounds
 pub number-within : (lo hi : ℕ) (s : List ℕ) (n : ℕ) → accepted (n ∷ []) ≡ readNumber lo hi s → (lo ≤ n) × (n ≤ hi)

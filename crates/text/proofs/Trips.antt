@@ -7,9 +7,9 @@ use Prim.Native.Nat.{ℕ, zero, suc, _+_, _-_, _*_, _/_, _%_, _≤_, _<_}
 use native.Mathlib.Omega.{arith}
 use borrow.Author.Tests.{le-leb, eqb-false, ne-eqb, not-true}
 use lib.Dec.{leb, eqb}
-use Rattle.lists.specs.Lists.{all}
+use Rattle.lists.specs.Lists.{every}
 use Rattle.lists.proofs.Cases.{less, chosen, and-true, fst-true, snd-true, clash}
-use Rattle.lists.proofs.Clear.{all-append}
+use Rattle.lists.proofs.Clear.{every-append}
 use Rattle.refusal.specs.Answer.{accepted}
 use Rattle.refusal.proofs.Answers.{took}
 use Rattle.text.specs.Digits.{lastDigit, digits}
@@ -30,12 +30,12 @@ by-tenths P one more n = up-to n n (omega arith)
 digit-of : (n : ℕ) → isDigit (lastDigit n) ≡ true
 digit-of n = digit-passes (n % 10) (omega arith)
 
-pub all-digits : (n : ℕ) → all isDigit (digits n) ≡ true
-all-digits =
+pub every-digits : (n : ℕ) → every isDigit (digits n) ≡ true
+every-digits =
     by-tenths
-    (λ n. all isDigit (digits n) ≡ true)
-    (λ n h. ap (all isDigit) (digits-one n h) ∙ and-true (digit-of n) refl)
-    (λ n h p. ap (all isDigit) (digits-more n h) ∙ all-append isDigit (digits (n / 10)) (lastDigit n ∷ []) p (and-true (digit-of n) refl))
+    (λ n. every isDigit (digits n) ≡ true)
+    (λ n h. ap (every isDigit) (digits-one n h) ∙ and-true (digit-of n) refl)
+    (λ n h p. ap (every isDigit) (digits-more n h) ∙ every-append isDigit (digits (n / 10)) (lastDigit n ∷ []) p (and-true (digit-of n) refl))
 
 value-append : (m : ℕ) (a b : List ℕ) → valueFrom m (a ++ b) ≡ valueFrom (valueFrom m a) b
 value-append m [] b = refl
@@ -65,7 +65,7 @@ leading =
     (λ n h p. rw (digits-one n h) (leads (lastDigit n) [] (omega arith)))
     (λ n h q p. rw (digits-more n h) (leads-append (lastDigit n ∷ []) (q (omega arith))))
 
-well-led : {s : List ℕ} → Leads s → all isDigit s ≡ true → wellWritten s ≡ true
+well-led : {s : List ℕ} → Leads s → every isDigit s ≡ true → wellWritten s ≡ true
 unfolding wellWritten
 well-led (leads x [] h) e = fst-true (isDigit x) true e
 well-led (leads x (y ∷ s) h) e = rw (ne-eqb x 48 (λ z. omega arith)) e
@@ -73,7 +73,7 @@ well-led (leads x (y ∷ s) h) e = rw (ne-eqb x 48 (λ z. omega arith)) e
 well-digits : (n : ℕ) → wellWritten (digits n) ≡ true
 unfolding wellWritten digits
 well-digits zero = refl
-well-digits (suc n) = well-led (leading (suc n) (omega arith)) (all-digits (suc n))
+well-digits (suc n) = well-led (leading (suc n) (omega arith)) (every-digits (suc n))
 
 pub number-reads-back : NumberReadsBack
 unfolding readNumber value
@@ -94,11 +94,11 @@ digits-next n x p e =
     let last : lastDigit (n * 10 + (x - 48)) ≡ x = omega arith in
     digits-more (n * 10 + (x - 48)) (omega arith) ∙ rw (tenth, last)
 
-digits-value : (n : ℕ) (s : List ℕ) → 0 < n → all isDigit s ≡ true → digits (valueFrom n s) ≡ digits n ++ s
+digits-value : (n : ℕ) (s : List ℕ) → 0 < n → every isDigit s ≡ true → digits (valueFrom n s) ≡ digits n ++ s
 digits-value n [] p e = sym (append-nil (digits n))
 digits-value n (x ∷ s) p e =
-    let d = fst-true (isDigit x) (all isDigit s) e in
-    digits-value (n * 10 + (x - 48)) s (omega arith) (snd-true (isDigit x) (all isDigit s) e)
+    let d = fst-true (isDigit x) (every isDigit s) e in
+    digits-value (n * 10 + (x - 48)) s (omega arith) (snd-true (isDigit x) (every isDigit s) e)
     ∙ ap (λ (l : List ℕ). l ++ s) (digits-next n x p d)
     ∙ append-assoc (digits n) (x ∷ []) s
 
@@ -117,13 +117,13 @@ unfolding wellWritten
 written-value [] e = absurd (clash e refl)
 written-value (x ∷ []) e = ap digits (no-tens x) ∙ one-digit x e
 written-value (x ∷ y ∷ s) e =
-    let other-first = eqb-false x 48 (not-true (eqb x 48) (fst-true (not (eqb x 48)) (all isDigit (x ∷ y ∷ s)) e)) in
-    let ds = snd-true (not (eqb x 48)) (all isDigit (x ∷ y ∷ s)) e in
-    let d = fst-true (isDigit x) (all isDigit (y ∷ s)) ds in
+    let other-first = eqb-false x 48 (not-true (eqb x 48) (fst-true (not (eqb x 48)) (every isDigit (x ∷ y ∷ s)) e)) in
+    let ds = snd-true (not (eqb x 48)) (every isDigit (x ∷ y ∷ s)) e in
+    let d = fst-true (isDigit x) (every isDigit (y ∷ s)) ds in
     let lo = digit-least x d in
     let above : 0 < x - 48 = omega arith in
     ap (λ (k : ℕ). digits (valueFrom k (y ∷ s))) (no-tens x)
-    ∙ digits-value (x - 48) (y ∷ s) above (snd-true (isDigit x) (all isDigit (y ∷ s)) ds)
+    ∙ digits-value (x - 48) (y ∷ s) above (snd-true (isDigit x) (every isDigit (y ∷ s)) ds)
     ∙ ap (λ (l : List ℕ). l ++ (y ∷ s)) (one-digit x d)
 
 pub number-writes-back : NumberWritesBack

@@ -55,6 +55,11 @@ module _ {d : List ℕ} {at : ℕ} {w : List ℕ} {r : ℕ} {d′ : List ℕ} (h
   pub written-slice : d′ ≡ splice d at w
   written-slice = p .slice ∙ wrote-fits d at w h
 
+-- what fits is not refused
+pub not-short :
+    {A : Type 0} {d : List ℕ} {at : ℕ} {w : List ℕ} {k : Refusal} {d′ : List ℕ} → at + length w ≤ length d → Writes d at w (Refused k) d′ → A
+not-short {d = d} {at} {w} h p = not-both (p .answer ∙ writing-fits d at w h)
+
 -- one byte more after what was written
 pub writes-more :
     {d : List ℕ} {at : ℕ} {w : List ℕ} {r : ℕ} {d′ : List ℕ} (b : ℕ) → at + length w < length d → Writes d at w (To r) d′ →

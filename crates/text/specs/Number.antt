@@ -4,7 +4,7 @@ use mathlib.Core.List.{List, [], _∷_}
 use Prim.Native.Nat.{ℕ, _+_, _-_, _*_}
 use lib.Dec.{leb, eqb}
 use Rattle.lists.specs.Choice.{choose}
-use Rattle.lists.specs.Lists.{all}
+use Rattle.lists.specs.Lists.{every}
 use Rattle.refusal.specs.Answer.{Answer, accepted, refused, numberOf}
 use Rattle.text.specs.declared.NumberAnswer.{NumberAnswer}
 use Rattle.text.specs.declared.NumberAnswer.the-variants.{Is, Refused}
@@ -30,7 +30,7 @@ value s = valueFrom 0 s
 unfoldable pub wellWritten : List ℕ → Bool
 wellWritten [] = false
 wellWritten (x ∷ []) = isDigit x
-wellWritten (x ∷ y ∷ s) = not (eqb x 48) && all isDigit (x ∷ y ∷ s)
+wellWritten (x ∷ y ∷ s) = not (eqb x 48) && every isDigit (x ∷ y ∷ s)
 
 -- "2. A number badly written or out of range.": the range is from lo to hi, and is empty where lo is greater
 unfoldable pub readNumber : ℕ → ℕ → List ℕ → Answer

@@ -6,7 +6,7 @@ use Prim.Native.Nat.{ℕ, _+_, _-_, _*_, _≤_}
 use lib.Dec.{leb, eqb}
 use lib.ListN.{length}
 use Rattle.lists.specs.Choice.{choose}
-use Rattle.lists.specs.Lists.{all}
+use Rattle.lists.specs.Lists.{every}
 use Rattle.lists.specs.Splice.{splice}
 use Rattle.refusal.specs.Answer.{Answer, accepted, refused}
 use Rattle.text.specs.declared.Written.{Written}
@@ -21,7 +21,7 @@ badStart (x ∷ y ∷ s) = eqb x 48
 
 -- the digits s after those of n, where their number is at most hi
 unfoldable pub readFrom : ℕ → ℕ → List ℕ → Answer
-readFrom hi n s = choose (all isDigit s && leb (valueFrom n s) hi) (accepted (valueFrom n s ∷ [])) (refused 2)
+readFrom hi n s = choose (every isDigit s && leb (valueFrom n s) hi) (accepted (valueFrom n s ∷ [])) (refused 2)
 
 -- one digit more
 unfoldable pub readDigit : ℕ → ℕ → ℕ → Answer

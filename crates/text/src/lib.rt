@@ -201,11 +201,11 @@ pub fn read_number(s: &[u8], least: u64, greatest: u64) -> NumberAnswer
 
 // ---- writing
 
-// Whether n bytes fit into a slice of the given length, from the place `at` on.
-pub fn fits(length: usize, at: usize, n: usize) -> bool
-    ensures { λ r. ⌜ r ≡ roomFor length at n ⌝ }
+// Whether n bytes fit into a slice that has room for so many, from the place `at` on.
+pub fn fits(room: usize, at: usize, n: usize) -> bool
+    ensures { λ r. ⌜ r ≡ roomFor room at n ⌝ }
 {
-    if at > length { false } else { n <= length - at }
+    if at > room { false } else { n <= room - at }
 }
 
 // How many digits n has.
@@ -213,6 +213,20 @@ pub fn width(n: u64) -> usize
     ensures { λ r. ⌜ r ≡ length (digits n) ⌝ }
 {
     if n < 10 { 1 } else { width(n / 10) + 1 }
+}
+
+// The most digits that a number has.
+const DIGITS: usize = 20;
+
+// Whether the digits of n fit. They are counted only where the most that a number has would not.
+fn digits_fit(room: usize, at: usize, n: u64) -> bool
+    ensures { λ r. ⌜ r ≡ roomFor room at (length (digits n)) ⌝ }
+{
+    if fits(room, at, DIGITS) {
+        true
+    } else {
+        fits(room, at, width(n))
+    }
 }
 
 // The digits of n, where they fit.
@@ -234,7 +248,7 @@ fn put_digits(out: &mut [u8], at: usize, n: u64) -> usize
 pub fn write_number(out: &mut [u8], at: usize, n: u64) -> Written
     ensures { λ r. ⌜ Writes (now (out .entry)) at (digits n) r (now (out .exit)) ⌝ }
 {
-    if fits(out.len(), at, width(n)) {
+    if digits_fit(out.len(), at, n) {
         Written::To(put_digits(out, at, n))
     } else {
         Written::Refused(Refusal::Short)

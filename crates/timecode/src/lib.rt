@@ -10,9 +10,10 @@ ghost use Rattle.timecode.specs.Label.{label};
 ghost use Rattle.timecode.specs.Read.{ofTimecode, inDay, takeFrame, twoAt, twoBelow, isLabel, frameOf, readTimecode};
 ghost use Rattle.timecode.specs.Steps.{hasColons, inRange, Pair, Digits, IsLabel};
 
-// A frame, by its number. Those of the day have labels.
+// A frame of the day, by its number. `Timecode::of_frame` and `Timecode::read` make it; no other
+// crate can by itself.
 pub struct Timecode {
-    pub frame: u32,
+    frame: u32,
 }
 
 // A timecode, or 3.
@@ -50,18 +51,17 @@ impl Timecode {
         }
     }
 
-    // The label; beyond the day it shows the last two digits of the hours.
-    pub fn label(self) -> [u8; 11]
-        ensures { λ r. ⌜ r ≡ label (self .frame) ⌝ }
+    // The label of a frame; beyond the day it shows the last two digits of the hours.
+    pub fn label_of(frame: u32) -> [u8; 11]
+        ensures { λ r. ⌜ r ≡ label frame ⌝ }
     {
-        let t = self.frame;
-        let seconds = t / Timecode::RATE;
+        let seconds = frame / Timecode::RATE;
         let minutes = seconds / 60;
         let hours = minutes / 60;
         let h = pair(hours % 100);
         let m = pair(minutes - hours * 60);
         let s = pair(seconds - minutes * 60);
-        let f = pair(t - seconds * Timecode::RATE);
+        let f = pair(frame - seconds * Timecode::RATE);
         [
             (h % 256) as u8,
             (h / 256) as u8,
@@ -75,6 +75,20 @@ impl Timecode {
             (f % 256) as u8,
             (f / 256) as u8,
         ]
+    }
+
+    // Its frame.
+    pub fn frame(self) -> u32
+        ensures { λ r. ⌜ r ≡ self .frame ⌝ }
+    {
+        self.frame
+    }
+
+    // Its label.
+    pub fn label(self) -> [u8; 11]
+        ensures { λ r. ⌜ r ≡ label (self .frame) ⌝ }
+    {
+        Timecode::label_of(self.frame)
     }
 
     // The label into a lent slice: 3 for a frame outside the day, then 9.

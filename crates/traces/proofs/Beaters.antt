@@ -5,7 +5,7 @@ use mathlib.Core.Bool.{true}
 use Prim.Native.Nat.{ℕ, zero, suc, _+_, _<_, _≤_}
 use native.Mathlib.Omega.{arith}
 use Rattle.lists.proofs.Cases.{on, clash}
-use Rattle.server.specs.declared.Role.the-variants.{Prospect, Primary}
+use Rattle.roles.specs.declared.Role.the-variants.{Prospect, Primary}
 use Rattle.traces.specs.Trace.{Trace, Beats, HearsHigher}
 use Rattle.traces.specs.Facts.{Facts}
 use Rattle.traces.proofs.Laws.{upto, onward}

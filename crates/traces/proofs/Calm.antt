@@ -5,11 +5,10 @@ use mathlib.Core.Bool.{true}
 use Prim.Native.Nat.{ℕ, suc, _<_, _≤_}
 use native.Mathlib.Omega.{arith}
 use Rattle.lists.proofs.Cases.{on, clash}
-use Rattle.server.specs.declared.Role.the-variants.{Backup}
+use Rattle.roles.specs.declared.Role.the-variants.{Backup}
 use Rattle.traces.specs.Trace.{Trace, Beats, HearsAny}
 use Rattle.traces.specs.Facts.{Facts, SilentBackup}
-use Rattle.traces.proofs.Ways.{prospect-beats, backup-active, backup-still}
-use Rattle.traces.proofs.Ways.{Went, went, rested, kept, yielded, answered, woke, heeded, waited}
+use Rattle.traces.proofs.Ways.{prospect-beats, backup-active, backup-still, Went, went, rested, kept, yielded, answered, woke, heeded, waited}
 use Rattle.traces.proofs.Senders.{Wakes}
 use Rattle.traces.proofs.Beaters.{Unrivalled}
 

@@ -4,7 +4,7 @@ use mathlib.Core.Logic.{_⊎_, inl, inr}
 use mathlib.Core.Bool.{Bool, true, false, _&&_}
 use Prim.Native.Nat.{ℕ, zero, suc, _<_, _≤_}
 use native.Mathlib.Omega.{arith}
-use Rattle.lists.specs.Lists.{count}
+use Rattle.lists.specs.Lists.{countBelow}
 use Rattle.lists.proofs.Cases.{fst-true, snd-true, and-true, and-right, tested, on, less, equal, clash}
 use Rattle.lists.proofs.Counting.{count-lt}
 use Rattle.traces.specs.Facts.{Order}
@@ -70,7 +70,7 @@ module _ {n : ℕ} {seated : ℕ → Bool} {higher : ℕ → ℕ → Bool} (o : 
 
 -- how many of the seated are lower than i
 pub rank : ℕ → (ℕ → Bool) → (ℕ → ℕ → Bool) → ℕ → ℕ
-rank n seated higher i = count (λ j. seated j && higher i j) n
+rank n seated higher i = countBelow (λ j. seated j && higher i j) n
 
 module _ {n : ℕ} {seated : ℕ → Bool} {higher : ℕ → ℕ → Bool} (o : Order n seated higher) where
   -- a lower one that is seated has a smaller rank
@@ -83,7 +83,7 @@ module _ {n : ℕ} {seated : ℕ → Bool} {higher : ℕ → ℕ → Bool} (o : 
       (and-right (seated j) (o .irreflexive j b)) (and-true s e)
 
   -- and the rank of a seated one is below the number of the seated
-  pub rank-small : (i : ℕ) → i < n → seated i ≡ true → rank n seated higher i < count seated n
+  pub rank-small : (i : ℕ) → i < n → seated i ≡ true → rank n seated higher i < countBelow seated n
   unfolding rank
   rank-small i a s = count-lt (λ x. seated x && higher i x) seated n
       (λ x l q. fst-true (seated x) (higher i x) q) i a (and-right (seated i) (o .irreflexive i a)) s

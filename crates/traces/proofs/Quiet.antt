@@ -10,8 +10,7 @@ use Rattle.traces.specs.Facts.{Facts, RevealingProspect, Waited}
 use Rattle.traces.specs.Settling.{NoneBeats}
 use Rattle.traces.proofs.Laws.{upto}
 use Rattle.traces.proofs.Order.{Highest}
-use Rattle.traces.proofs.Ways.{beats-still}
-use Rattle.traces.proofs.Ways.{Went, went, rested, kept, yielded, answered, woke, heeded, waited}
+use Rattle.traces.proofs.Ways.{beats-still, Went, went, rested, kept, yielded, answered, woke, heeded, waited}
 use Rattle.traces.proofs.Senders.{NoReveal, active-at, sender-beats, no-new}
 use Rattle.traces.proofs.Beaters.{Unrivalled, Tops, tops-unheard, sends-soon}
 use Rattle.traces.proofs.Sole.{Sole, sole-unrivalled, sole-start, sole-on}

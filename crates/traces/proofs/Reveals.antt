@@ -5,15 +5,13 @@ use Prim.Native.Nat.{ℕ, suc, _+_, _*_, _<_, _≤_}
 use mathlib.Core.Bool.{true}
 use native.Mathlib.Omega.{arith}
 use Rattle.lists.proofs.Cases.{on, less, clash, refuted}
-use Rattle.server.specs.declared.Role.the-variants.{Backup}
+use Rattle.roles.specs.declared.Role.the-variants.{Backup}
 use Rattle.traces.specs.Trace.{Trace, activeAt0, Beats, HearsHigher, HearsLowReveal, HearsAny}
 use Rattle.traces.specs.Facts.{Facts}
 use Rattle.traces.proofs.Laws.{onward}
 use Rattle.traces.proofs.Order.{Highest, not-over, rank, rank-lt, rank-small}
-use Rattle.traces.proofs.Ways.{prospect-beats, backup-active, backup-still, backs-or-beats, beats-still}
-use Rattle.traces.proofs.Ways.{Went, went, rested, kept, yielded, answered, woke, heeded, waited}
-use Rattle.traces.proofs.Senders.{NoReveal, active-at, beater-active, sender-active}
-use Rattle.traces.proofs.Senders.{revealer-active, revealer-beats, reveal-from}
+use Rattle.traces.proofs.Ways.{prospect-beats, backup-active, backup-still, backs-or-beats, beats-still, Went, went, rested, kept, yielded, answered, woke, heeded, waited}
+use Rattle.traces.proofs.Senders.{NoReveal, active-at, beater-active, sender-active, revealer-active, revealer-beats, reveal-from}
 use Rattle.traces.proofs.Beaters.{Unrivalled, Tops, sends-soon}
 use Rattle.traces.proofs.Calm.{Near, Calm, silent-near, hears-h, calm-sleeps, calm-step}
 use Rattle.traces.proofs.Sole.{Sole, sole-start, sole-on}

@@ -5,12 +5,10 @@ use mathlib.Core.Bool.{true, false}
 use Prim.Native.Nat.{ℕ, zero, suc, _+_, _<_, _≤_}
 use native.Mathlib.Omega.{arith}
 use Rattle.lists.proofs.Cases.{on, clash}
-use Rattle.server.specs.declared.Role.the-variants.{Backup}
-use Rattle.traces.specs.Trace.{Trace, isActive, isBeating, Active, Beats}
-use Rattle.traces.specs.Trace.{HearsLowReveal, HearsAny}
+use Rattle.roles.specs.declared.Role.the-variants.{Backup}
+use Rattle.traces.specs.Trace.{Trace, isActive, isBeating, Active, Beats, HearsLowReveal, HearsAny}
 use Rattle.traces.specs.Facts.{Facts, BeatsOn}
-use Rattle.traces.proofs.Ways.{beating-active, prospect-beats, backup-active, backup-still, Went, went}
-use Rattle.traces.proofs.Ways.{rested, kept, yielded, answered, woke, heeded, waited}
+use Rattle.traces.proofs.Ways.{beating-active, prospect-beats, backup-active, backup-still, Went, went, rested, kept, yielded, answered, woke, heeded, waited}
 
 -- nobody reveals in frame k
 abbrev pub NoReveal : Trace → ℕ → Type 0

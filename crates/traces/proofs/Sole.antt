@@ -5,12 +5,11 @@ use mathlib.Core.Bool.{true, false}
 use Prim.Native.Nat.{ℕ, suc, _<_, _≤_}
 use native.Mathlib.Omega.{arith}
 use Rattle.lists.proofs.Cases.{on, equal, clash, refuted}
-use Rattle.server.specs.declared.Role.the-variants.{Backup}
+use Rattle.roles.specs.declared.Role.the-variants.{Backup}
 use Rattle.traces.specs.Trace.{Trace, Active, Beats, HearsHigher, HearsAny}
 use Rattle.traces.specs.Facts.{Facts, SilentBackup}
 use Rattle.traces.proofs.Laws.{onward}
-use Rattle.traces.proofs.Ways.{backup-still, beats-still}
-use Rattle.traces.proofs.Ways.{Went, went, rested, kept, yielded, answered, woke, heeded, waited}
+use Rattle.traces.proofs.Ways.{backup-still, beats-still, Went, went, rested, kept, yielded, answered, woke, heeded, waited}
 use Rattle.traces.proofs.Senders.{NoReveal, active-at, beater-active, backup-was, reveal-from}
 use Rattle.traces.proofs.Beaters.{Unrivalled, Tops, tops-unheard}
 use Rattle.traces.proofs.Calm.{Calm, silent-near, calm-sleeps, calm-step}

@@ -5,10 +5,9 @@ use mathlib.Core.Bool.{true, false}
 use Prim.Native.Nat.{ℕ, suc, _+_, _<_, _≤_}
 use native.Mathlib.Omega.{arith}
 use Rattle.lists.proofs.Cases.{tested, on, less, equal, clash}
-use Rattle.server.specs.declared.Role.{Role}
-use Rattle.server.specs.declared.Role.the-variants.{Down, Idle, Sync, Backup, Prospect, Primary}
-use Rattle.traces.specs.Trace.{isActive, isBeating, Trace}
-use Rattle.traces.specs.Trace.{Active, Beats, HearsHigher, HearsLowReveal, HearsAny}
+use Rattle.roles.specs.declared.Role.{Role}
+use Rattle.roles.specs.declared.Role.the-variants.{Down, Idle, Sync, Backup, Prospect, Primary}
+use Rattle.traces.specs.Trace.{isActive, isBeating, Trace, Active, Beats, HearsHigher, HearsLowReveal, HearsAny}
 use Rattle.traces.specs.Facts.{Facts, SilentBackup, RevealingProspect, Waited, BeatsOn}
 use Rattle.traces.proofs.Laws.{holds?, both?, found}
 

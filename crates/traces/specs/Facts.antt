@@ -3,10 +3,9 @@ use mathlib.Core.Path.{_≡_}
 use mathlib.Core.Logic.{_⊎_, _≢_}
 use mathlib.Core.Bool.{Bool, true, false}
 use Prim.Native.Nat.{ℕ, suc, _+_, _*_, _<_, _≤_}
-use Rattle.lists.specs.Lists.{count}
-use Rattle.server.specs.declared.Role.the-variants.{Backup, Prospect, Primary}
-use Rattle.traces.specs.Trace.{Trace, isActive, activeAt0, Active, Beats}
-use Rattle.traces.specs.Trace.{HearsHigher, HearsLowReveal, HearsAny}
+use Rattle.lists.specs.Lists.{countBelow}
+use Rattle.roles.specs.declared.Role.the-variants.{Backup, Prospect, Primary}
+use Rattle.traces.specs.Trace.{Trace, isActive, activeAt0, Active, Beats, HearsHigher, HearsLowReveal, HearsAny}
 
 -- a strict order on the indices below n, total on those that are seated
 pub record Order (n : ℕ) (seated : ℕ → Bool) (higher : ℕ → ℕ → Bool) : Type 0 where
@@ -76,7 +75,7 @@ pub record QuietStep (P S Q : ℕ) (t : Trace) (k i : ℕ) : Type 0 where
 -- all that is asked of a trace
 pub record Facts (P S Q : ℕ) (t : Trace) : Type 0 where
   pub order : Order (t .size) (activeAt0 t) (t .higher)
-  pub limits : Limits (count (activeAt0 t) (t .size)) P S Q
+  pub limits : Limits (countBelow (activeAt0 t) (t .size)) P S Q
   pub sent : (k i : ℕ) → i < t .size → t .reveals k i ≡ true → t .sends k i ≡ true
   pub first : (i : ℕ) → i < t .size → FirstStep t i
   pub ages : (k i : ℕ) → 1 ≤ k → i < t .size → Ages P S Q t k i

@@ -3,7 +3,7 @@ use mathlib.Core.Path.{_≡_}
 use mathlib.Core.Logic.{_⊎_, _≢_}
 use mathlib.Core.Bool.{true, false}
 use Prim.Native.Nat.{ℕ, _+_, _<_, _≤_}
-use Rattle.server.specs.declared.Role.the-variants.{Backup, Primary}
+use Rattle.roles.specs.declared.Role.the-variants.{Backup, Primary}
 use Rattle.traces.specs.Trace.{Trace, isBeating, Active}
 use Rattle.traces.specs.Facts.{Facts}
 

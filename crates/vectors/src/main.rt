@@ -172,10 +172,10 @@ enum Found {
 }
 
 // A sheet against what the file says of it.
-fn compare(sheet: &[u8], length: usize, shown: &[u8], number: u64) -> Found
-    ensures { λ r. ⌜ r ≡ compared (now (sheet .entry)) length (now (shown .entry)) number ⌝ }
+fn compare(sheet: &[u8], long: usize, shown: &[u8], number: u64) -> Found
+    ensures { λ r. ⌜ r ≡ compared (now (sheet .entry)) long (now (shown .entry)) number ⌝ }
 {
-    if sheet.len() != length {
+    if sheet.len() != long {
         return Found::Length;
     }
     if !((shown.len() == 0) | text::same(sheet, shown)) {
@@ -189,11 +189,11 @@ fn compare(sheet: &[u8], length: usize, shown: &[u8], number: u64) -> Found
 }
 
 // The engine's sheet of a day against what the file says. One for which there is no room counts as one of another length.
-fn compare_sheet(day: &[u8], length: usize, shown: &[u8], number: u64, out: &mut [u8]) -> Found
-    ensures { λ r. ⌜ r ≡ sheetCompared (now (out .entry)) (now (day .entry)) length (now (shown .entry)) number ⌝ }
+fn compare_sheet(day: &[u8], long: usize, shown: &[u8], number: u64, out: &mut [u8]) -> Found
+    ensures { λ r. ⌜ r ≡ sheetCompared (now (out .entry)) (now (day .entry)) long (now (shown .entry)) number ⌝ }
 {
     match daysheet::sheet(day, out) {
-        Written::To(n) => compare(&out[..n], length, shown, number),
+        Written::To(n) => compare(&out[..n], long, shown, number),
         Written::Refused(_) => Found::Length,
     }
 }

@@ -1,6 +1,6 @@
 -- What verbs do. Assumes nothing.
 use mathlib.Core.Bool.{Bool, true, false, not, _&&_}
-use mathlib.Core.Path.{_≡_, refl, sym, ap, ap₂, _∙_}
+use mathlib.Core.Path.{_≡_, refl, sym, ap, ap₂, subst, _∙_}
 use mathlib.Core.List.{List, [], _∷_}
 use Prim.{tt}
 use Prim.Native.Nat.{ℕ, _+_, _%_, _≤_, _<_}
@@ -21,15 +21,18 @@ use Rattle.refusal.specs.declared.Verdict.the-variants.{Accepted, Refused}
 use Rattle.refusal.specs.Answer.{ofVerdict, numberOf}
 use Rattle.refusal.proofs.Answers.{number-some}
 use Rattle.server.specs.declared.Server.{Server}
-use Rattle.server.specs.declared.Event.the-variants as event
-use Rattle.server.specs.declared.Verb.{Verb}
-use Rattle.server.specs.declared.Verb.the-variants.{Start, Ready, Unready, Pass, Crash, Restart, Cut, Mend}
-use Rattle.server.specs.declared.Word.the-variants as word
-use Rattle.server.specs.declared.Said.the-variants as says
+use Rattle.roles.specs.declared.Event.the-variants as event
+use Rattle.periods.specs.declared.Period.{Period}
+use Rattle.roles.specs.declared.Verb.{Verb}
+use Rattle.roles.specs.declared.Verb.the-variants.{Start, Ready, Unready, Pass, Crash, Restart, Cut, Mend}
+use Rattle.roles.specs.declared.Word.the-variants as word
+use Rattle.roles.specs.declared.Said.{Said}
+use Rattle.roles.specs.declared.Said.the-variants as says
 use Rattle.server.specs.Server.{after}
-use Rattle.server.specs.Verbs.{paired, verbHappens, verbAnswer}
-use Rattle.server.specs.Words.{said}
-use Rattle.server.proofs.Verb.{the-type}
+use Rattle.roles.specs.Verbs.{paired, verbHappens}
+use Rattle.server.specs.Verbs.{verbAnswer}
+use Rattle.roles.specs.Words.{said}
+use Rattle.roles.proofs.Verb.{the-type}
 use Rattle.lines.specs.Lines.{linesOf, Says}
 use Rattle.frame.proofs.Writing.{says-out}
 use Rattle.frame.proofs.Telling.{within, beyond}
@@ -40,9 +43,13 @@ use Rattle.group.specs.Table.{most}
 use Rattle.group.specs.Hearing.{place, linkOf, whole}
 use Rattle.group.specs.Verbs.{placeOf, namesNobody, known, stateRefusal, verbRefusal, linksAfter, verbSaid, did, verbOutcome}
 use Rattle.group.proofs.Answering.{is-short, is-long, gives-not, gives-so}
+use Rattle.places.specs.Words.{serversOf, Keeps}
+use Rattle.places.proofs.Canonical.{becomes}
+use Rattle.frame.specs.Answers.{stateOf}
+use Rattle.verbs.specs.Answers.{Acts}
 use Rattle.verbs.specs.declared.Deed.{Deed}
 use Rattle.verbs.specs.declared.Acted.{Acted}
-use Rattle.verbs.specs.Steps.{knownAt, stateNumber, linkAfter, Does, Tells, put}
+use Rattle.verbs.specs.Steps.{knownAt, stateNumber, linkAfter, Does, Tells, put, Decided}
 
 -- a test joined with one that holds
 pub and-rest : (t : Bool) → (t && true) ≡ t
@@ -196,7 +203,7 @@ module _ (c : State) (v : Verb) (a b : ℕ) {x y : ℕ} (p : x ≡ placeOf c a) 
         ap (λ (h : ℕ). linesOf (c .frame) a (verbSaid v (verbHappens v b (verbAnswer v b (place c h))))) (sym (first-at (has-places (number ∙ z))))
         ∙ sym (ap (linesOf (c .frame) a) (w .told)))
 
-    pub verb-allowed : r .verdict ≡ Accepted → Gives c (verbOutcome c v a b) d (r .verdict) (r .written) (put c (x % most) (y % most) (e .server) (e .link)) d′
+    verb-allowed : r .verdict ≡ Accepted → Gives c (verbOutcome c v a b) d (r .verdict) (r .written) (put c (x % most) (y % most) (e .server) (e .link)) d′
     unfolding did
     verb-allowed h =
         as-allowed c (verbOutcome c v a b) gives h
@@ -207,5 +214,29 @@ module _ (c : State) (v : Verb) (a b : ℕ) {x y : ℕ} (p : x ≡ placeOf c a) 
         (ap (set (c .servers) (x % most)) (w .server) ∙ ap (λ (i : ℕ). set (c .servers) i (after (c .frame) (place c i) (verbHappens v b (verbAnswer v b (place c i))))) l)
         (ap (set (c .whole) (linkOf (x % most) (y % most))) (w .link) ∙ links-same c v a b l (second-at k))))
 
-    pub verb-refused : {k : Refusal} → r .verdict ≡ Refused k → Gives c (verbOutcome c v a b) d (r .verdict) (r .written) c d′
+    verb-refused : {k : Refusal} → r .verdict ≡ Refused k → Gives c (verbOutcome c v a b) d (r .verdict) (r .written) c d′
     verb-refused h = as-refused c (verbOutcome c v a b) gives h refl
+
+    pub verb-decided : Decided c v a b x y d (record { verdict = r .verdict; written = r .written; server = e .server; link = e .link }) d′
+    verb-decided = record { allowed = verb-allowed; refused = λ k h. verb-refused h }
+
+-- an attempt on a server and a link that are those of the channel
+pub does-as :
+    {t u : ℕ} {v : Verb} {b : ℕ} {s x : Server} {w y : Bool} {e : Deed} → u ≡ t → s ≡ x → w ≡ y → Does t v b s w e → Does u v b x y e
+does-as {t} {u} {v} {b} {s} {x} {w} {y} {e} p q h f =
+    subst (λ (n : ℕ). Does n v b x y e) (sym p) (subst (λ (z : Server). Does t v b z y e) q (subst (λ (z : Bool). Does t v b s z e) h f))
+
+pub tells-as : {t u n : ℕ} (a : ℕ) (k : Said) {d : List ℕ} {r : Acted} {d′ : List ℕ} → u ≡ t → Tells n (linesOf t a k) d r d′ → Tells n (linesOf u a k) d r d′
+tells-as {t} {u} {n} a k {d} {r} {d′} p g = subst (λ (m : ℕ). Tells n (linesOf m a k) d r d′) (sym p) g
+
+-- ---- the answer
+
+pub not-refused : {v : Verdict} (k : Refusal) → v ≡ Accepted → v ≡ Refused k → ⊥
+not-refused k e f = let z : _≡_ {A = ℕ} 0 1 = cc in omega arith
+
+module _ {t : ℕ} {w : List ℕ} {l : List Bool} {v : Verb} {a b : ℕ} {d : List ℕ} {r : Acted} {w′ : List ℕ} {l′ : List Bool} {d′ : List ℕ} where
+  pub acted :
+      Keeps w w′ →
+      ((p : Period) → Gives (stateOf t p (serversOf w) l) (verbOutcome (stateOf t p (serversOf w) l) v a b) d (r .verdict) (r .written) (stateOf t p (serversOf w′) l′) d′) →
+      ((k : Refusal) → r .verdict ≡ Refused k → (w′ ≡ w) × (l′ ≡ l)) → Acts t w l v a b d r w′ l′ d′
+  acted k g f = record { gives = g; words = λ p. becomes k (ap (λ (c : State). c .servers) (g p .channel)); same = f }

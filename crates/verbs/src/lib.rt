@@ -1,28 +1,41 @@
-// The eight verbs, on the numbers of a channel's servers and on its links, in place.
+// The eight verbs: on a channel's state by value, and on the numbers of its servers and its links in place.
+use group::Links;
+use group::Servers;
+use group::State;
+use group::Table;
+use places::Packed;
 use refusal::Refusal;
 use refusal::Verdict;
-use server::Said;
+use roles::Said;
+use roles::Verb;
+use roles::Word;
 use server::Server;
-use server::Verb;
-use server::Word;
 ghost use mathlib.Core.Path.{_≡_};
 ghost use Prim.Native.Nat.{_<_};
 ghost use lib.ListN.{set};
 ghost use Rattle.lists.specs.Choice.{choose};
 ghost use Rattle.refusal.specs.Answer.{ofVerdict};
-ghost use Rattle.server.specs.Verbs.{paired};
+ghost use Rattle.roles.specs.Verbs.{paired};
 ghost use Rattle.lines.specs.Lines.{linesOf};
-ghost use Rattle.group.specs.Table.{placeIn};
+ghost use Rattle.group.specs.Table.{placeIn, most};
 ghost use Rattle.group.specs.Hearing.{linkOf};
-ghost use Rattle.group.specs.Verbs.{namesNobody};
-ghost use Rattle.places.specs.Words.{serversOf};
+ghost use Rattle.group.specs.Answers.{Gives};
+ghost use Rattle.group.specs.Verbs.{namesNobody, known, verbOutcome};
+ghost use Rattle.places.specs.Words.{serversOf, Becomes};
 ghost use Rattle.verbs.specs.Answers.{Knows, Acts};
-ghost use Rattle.verbs.specs.Steps.{knownAt, Does, Tells};
+ghost use Rattle.verbs.specs.Steps.{knownAt, Does, Tells, Decides, put};
 
 // The verdict on a verb, and how many bytes it wrote.
 pub struct Acted {
     pub verdict: Verdict,
     pub written: usize,
+}
+
+// What a verb answers on a state: where it is refused, nothing written and the same state.
+pub struct Answered {
+    pub verdict: Verdict,
+    pub written: usize,
+    pub state: State,
 }
 
 // What a verb would make of its server and of its link, and what the sheet says of it. Where it is refused, only the verdict counts.
@@ -36,17 +49,17 @@ struct Deed {
 fn names_nobody(verb: Verb, a: u16, b: u16) -> bool
     ensures { λ r. ⌜ r ≡ namesNobody verb a b ⌝ }
 {
-    (a == 0) | (server::paired(verb) & (b == 0))
+    (a == 0) | (roles::paired(verb) & (b == 0))
 }
 
 // The identities are in the table, at the places i and j, and differ.
 fn known(verb: Verb, a: u16, b: u16, i: usize, j: usize) -> bool
     ensures { λ r. ⌜ r ≡ knownAt verb a b i j ⌝ }
 {
-    if server::paired(verb) {
-        (i < 16) & ((j < 16) & (a != b))
+    if roles::paired(verb) {
+        (i < Table::SERVERS) & ((j < Table::SERVERS) & (a != b))
     } else {
-        i < 16
+        i < Table::SERVERS
     }
 }
 
@@ -65,10 +78,10 @@ fn judge(verb: Verb, a: u16, b: u16, i: usize, j: usize, allowed: Verdict) -> Ve
 }
 
 // The place of the second identity, where the verb has one.
-fn second_place(words: &[u32; 80], verb: Verb, b: u16) -> usize
+fn second_place(words: &Packed, verb: Verb, b: u16) -> usize
     ensures { λ r. ⌜ r ≡ choose (paired verb) (placeIn (serversOf (now (words .entry))) b) 0 ⌝ }
 {
-    if server::paired(verb) {
+    if roles::paired(verb) {
         places::place_in(words, b)
     } else {
         0
@@ -151,24 +164,57 @@ fn tell(verdict: Verdict, said: Said, frame: u32, identity: u16, out: &mut [u8])
     }
 }
 
-// Another server at place i, and another link from there to place j.
-fn put(
-    words: &mut [u32; 80],
-    whole: &mut [bool; 256],
-    i: usize,
-    j: usize,
+// The verdict on a verb, how many bytes it wrote, and what it makes of its server and of its link. Where it is refused, these do not count.
+struct Made {
+    verdict: Verdict,
+    written: usize,
     server: Server,
     link: bool,
-)
-    requires { ⌜ (i < 16) × (j < 16) ⌝ }
-    ensures { λ _. ⌜ (serversOf (now (words .exit)) ≡ set (serversOf (now (words .entry))) i server) × (now (whole .exit) ≡ set (now (whole .entry)) (linkOf i j) link) ⌝ }
-{
-    places::put(words, i, server);
-    whole[16 * i + j] = link;
 }
 
-// Whether the table has a verb's identities, which differ; the second counts only where the verb has one. Of 0 it says whether there is an empty place.
-pub fn knows(words: &[u32; 80], verb: Verb, a: u16, b: u16) -> bool
+// A verb whose identities stand at the places `first` and `second`, or at none (16 or more), with the server at the first and the link from there to the second; for these two, places beyond the
+// last count from 0 again.
+fn decide(
+    verb: Verb,
+    frame: u32,
+    a: u16,
+    b: u16,
+    first: usize,
+    second: usize,
+    s: Server,
+    link: bool,
+    out: &mut [u8],
+) -> Made
+    ensures { λ r. ⌜ Decides frame verb a b first second s link (now (out .entry)) r (now (out .exit)) ⌝ }
+{
+    let deed = attempt(verb, frame, b, s, link);
+    let allowed = deed.verdict;
+    let said = deed.said;
+    let server = deed.server;
+    let judged = judge(verb, a, b, first, second, allowed);
+    let acted = tell(judged, said, frame, a, out);
+    let verdict = acted.verdict;
+    Made {
+        verdict,
+        written: acted.written,
+        server,
+        link: deed.link,
+    }
+}
+
+// ---- in place
+
+// Another server at place i, and another link from there to place j.
+fn put(words: &mut Packed, whole: &mut Links, i: usize, j: usize, server: Server, link: bool)
+    requires { ⌜ (i < most) × (j < most) ⌝ }
+    ensures { λ _. ⌜ Becomes (now (words .entry)) (set (serversOf (now (words .entry))) i server) (now (words .exit)) × (now (whole .exit) ≡ set (now (whole .entry)) (linkOf i j) link) ⌝ }
+{
+    places::put(words, i, server);
+    whole[Table::SERVERS * i + j] = link;
+}
+
+// Whether the table has a verb's identities, which differ; the second counts only where the verb has one. It has no 0.
+pub fn knows(words: &Packed, verb: Verb, a: u16, b: u16) -> bool
     ensures { λ r. ⌜ Knows (now (words .entry)) verb a b r ⌝ }
 {
     let first = places::place_in(words, a);
@@ -178,8 +224,8 @@ pub fn knows(words: &[u32; 80], verb: Verb, a: u16, b: u16) -> bool
 
 // Any verb; the second identity is not looked at where the verb has one only. An identity that is not in the table stands for place 0, and gets 8, or 2 where it is 0.
 pub fn act(
-    words: &mut [u32; 80],
-    whole: &mut [bool; 256],
+    words: &mut Packed,
+    whole: &mut Links,
     frame: u32,
     verb: Verb,
     a: u16,
@@ -190,19 +236,103 @@ pub fn act(
 {
     let first = places::place_in(words, a);
     let second = second_place(words, verb, b);
-    let i = first % 16;
-    let j = second % 16;
+    let i = first % Table::SERVERS;
+    let j = second % Table::SERVERS;
     let s = places::server(words, i);
-    let deed = attempt(verb, frame, b, s, whole[16 * i + j]);
-    let allowed = deed.verdict;
-    let said = deed.said;
-    let server = deed.server;
-    let verdict = judge(verb, a, b, first, second, allowed);
-    let acted = tell(verdict, said, frame, a, out);
-    let last = acted.verdict;
-    match last {
-        Verdict::Accepted => put(words, whole, i, j, server, deed.link),
+    let done = decide(
+        verb,
+        frame,
+        a,
+        b,
+        first,
+        second,
+        s,
+        whole[Table::SERVERS * i + j],
+        out,
+    );
+    let verdict = done.verdict;
+    let server = done.server;
+    match verdict {
+        Verdict::Accepted => put(words, whole, i, j, server, done.link),
         Verdict::Refused(_) => {}
     }
-    acted
+    Acted {
+        verdict,
+        written: done.written,
+    }
+}
+
+// ---- by value
+
+// The place of the second identity, where the verb has one.
+fn second_in(servers: Servers, verb: Verb, b: u16) -> usize
+    ensures { λ r. ⌜ r ≡ choose (paired verb) (placeIn servers b) 0 ⌝ }
+{
+    if roles::paired(verb) {
+        group::place_in(servers, b)
+    } else {
+        0
+    }
+}
+
+// The same with another server at place i, and another link from there to place j.
+fn replaced(state: State, i: usize, j: usize, server: Server, link: bool) -> State
+    requires { ⌜ (i < most) × (j < most) ⌝ }
+    ensures { λ r. ⌜ r ≡ put state i j server link ⌝ }
+{
+    let k = Table::SERVERS * i + j;
+    let mut next = state;
+    next.servers[i] = server;
+    next.whole[k] = link;
+    next
+}
+
+// The same of a state.
+pub fn knows_in(state: State, verb: Verb, a: u16, b: u16) -> bool
+    ensures { λ r. ⌜ r ≡ known state verb a b ⌝ }
+{
+    let servers = state.servers;
+    let first = group::place_in(servers, a);
+    let second = second_in(servers, verb, b);
+    known(verb, a, b, first, second)
+}
+
+// Any verb on a state.
+pub fn next(state: State, verb: Verb, a: u16, b: u16, out: &mut [u8]) -> Answered
+    ensures { λ r. ⌜ Gives state (verbOutcome state verb a b) (now (out .entry)) (r .verdict) (r .written) (r .state) (now (out .exit)) ⌝ }
+{
+    let servers = state.servers;
+    let first = group::place_in(servers, a);
+    let second = second_in(servers, verb, b);
+    let i = first % Table::SERVERS;
+    let j = second % Table::SERVERS;
+    let s = servers[i];
+    let done = decide(
+        verb,
+        state.frame,
+        a,
+        b,
+        first,
+        second,
+        s,
+        state.whole[Table::SERVERS * i + j],
+        out,
+    );
+    let verdict = done.verdict;
+    let server = done.server;
+    match verdict {
+        Verdict::Accepted => {
+            let after = replaced(state, i, j, server, done.link);
+            Answered {
+                verdict,
+                written: done.written,
+                state: after,
+            }
+        }
+        Verdict::Refused(_) => Answered {
+            verdict,
+            written: done.written,
+            state,
+        },
+    }
 }

@@ -11,7 +11,7 @@ returns : tie.Need-returns
 returns c =
     let f = c .before .before .before .before .before .before .before .before .before .before .before .fresh in
     let s = f .result .state in
-    day-ends (c .before .before .before .before .before .before .before .before .before .before .before .before .table-of .ensures) (ap (λ (l : List Server). stateOf (s .frame) (s .period) l (s .whole)) (c .before .before .before .before .before .before .before .before .words-of .ensures) ∙ f .ensures .state) (c .before .before .day .ensures)
+    day-ends (c .before .before .before .before .before .before .before .before .before .before .before .before .table-of .ensures) (ap (λ (l : List Server). stateOf (s .frame) (s .period) l (s .whole)) (c .before .before .before .before .before .before .before .before .words-of .ensures .servers) ∙ f .ensures .state) (c .before .before .day .ensures)
 
 pub bench-day-spec : {M : Type 1} → statement M
 bench-day-spec = tie.close (tie.spec (λ c κs. search needs) (λ c κs. search needs) (λ c κs. search needs) (λ c κs. search needs) (λ c. search needs) returns)

@@ -13,7 +13,7 @@ slice-relend-prefix-call c = let a = c .before .before .args in omega (arith, c 
 returns : tie.Need-returns
 returns c =
     let a = c .before .before .before .before .before .before .args in
-    one-call (state (a .channel)) (a .n) (a .m) (a .out .now) (c .before .before .before .before .lesser .ensures) (c .before .before .call .ensures) refl
+    one-call (state (a .channel)) (a .n) (a .m) (a .out .now) (c .before .before .before .before .lesser .ensures) (c .before .before .call .ensures .gives) refl
 
 slice-aggregate-call : tie.Need-slice-aggregate-call
 slice-aggregate-call c = let a = c .before .before .before .args in sym (length-take-le _ (a .out .now) (omega (arith, c .before .lesser .ensures, lesser-fits (a .m) (a .out .now))))

@@ -1,6 +1,6 @@
 use mathlib.Core.Path.{ap}
 use native.Mathlib.Omega.{arith}
-use Rattle.server.specs.Verbs.{roleNumber}
+use Rattle.roles.specs.Roles.{roleNumber}
 use borrow.Author.Needs.{needs}
 use Rattle.cases.proofs.digit.Statement.{statement}
 use Rattle.cases.proofs.digit.Tie as tie

@@ -7,7 +7,9 @@ use Rattle.dayline.proofs.read_end.Statement.{statement}
 use Rattle.dayline.proofs.read_end.Tie as tie
 
 returns : tie.Need-returns
-returns c = good endOf (sym (ap ofTimecode (c .before .t .given .1)) ∙ c .before .before .before .read .ensures ∙ ap readTimecode (c .before .before .before .before .first-field .ensures))
+returns c =
+    rw (c .frame .ensures)
+    (good endOf (sym (ap ofTimecode (c .before .before .t .given .1)) ∙ c .before .before .before .before .read .ensures ∙ ap readTimecode (c .before .before .before .before .before .first-field .ensures)))
 
 returns-2 : tie.Need-returns-2
 returns-2 c = bad endOf (c .before .k .given .0 .0) (sym (ap ofTimecode (c .before .k .given .1)) ∙ c .before .before .before .read .ensures ∙ ap readTimecode (c .before .before .before .before .first-field .ensures))
@@ -19,6 +21,7 @@ read-end-spec =
     (λ c κs. search needs)
     (λ c κs. search needs)
     (λ c. search needs)
+    (λ c κs. search needs)
     (λ c. search needs)
     returns
     returns-2)

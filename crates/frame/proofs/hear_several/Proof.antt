@@ -16,25 +16,25 @@ use Rattle.frame.proofs.hear_several.Statement.{statement}
 use Rattle.frame.proofs.hear_several.Tie as tie
 
 abbrev Inv-loop : tie.InvT-loop
-Inv-loop places ranks sendings whole count frame j out₀ wet at near m now₀ r₀ last₀ k₀ out now r last k =
+Inv-loop listed ranks sendings whole count frame j out₀ wet at near m now₀ r₀ last₀ k₀ out now r last k =
     (k ≤ 16)
-    × Hearing frame wet now₀ (inboxBy (record { places = places; ranks = ranks; sendings = sendings; count = count }) whole j) out₀ r₀ now (inboxAfter (record { places = places; ranks = ranks; sendings = sendings; count = count }) whole j (16 - k) last) out r
+    × Hearing frame wet now₀ (inboxBy (record { places = listed; ranks = ranks; sendings = sendings; count = count }) whole j) out₀ r₀ now (inboxAfter (record { places = listed; ranks = ranks; sendings = sendings; count = count }) whole j (16 - k) last) out r
 
 abbrev μ-loop : tie.MeasureT-loop
-μ-loop places ranks sendings whole count frame j out₀ wet at near m now₀ r₀ last₀ k₀ out now r last k = 16 - k
+μ-loop listed ranks sendings whole count frame j out₀ wet at near m now₀ r₀ last₀ k₀ out now r last k = 16 - k
 
 -- the next of those that are heard is the next sender
 next-is : (s : SenderList) (w : List Bool) (j last i m : ℕ) (near : List ℕ) → Near w j (take (s .count) (s .places)) near m → i ≡ bestIn (s .ranks) last 16 (take m near) → i ≡ nextBy s w j last
 next-is s w j last i m near v e = e ∙ ap (bestIn (s .ranks) last 16) (v .these) ∙ best-heard (s .ranks) w j last 16 (take (s .count) (s .places))
 
 loop-holds : tie.Need-loop-holds Inv-loop μ-loop
-loop-holds c = let a = c .before .before .before .args in (search needs, begin (inbox-all (record { places = a .places .now; ranks = a .ranks .now; sendings = a .sendings .now; count = a .count }) (a .whole .now) (a .j)))
+loop-holds c = let a = c .before .before .before .args in (search needs, begin (inbox-all (record { places = a .listed .now; ranks = a .ranks .now; sendings = a .sendings .now; count = a .count }) (a .whole .now) (a .j)))
 
 returns : tie.Need-returns Inv-loop μ-loop
 returns c =
     let a = c .before .before .before .before .before .before .before .before .args in
     let l = c .before .before .before .before .loop in
-    finish (l .inv .1) (heard-none (record { places = a .places .now; ranks = a .ranks .now; sendings = a .sendings .now; count = a .count }) (a .whole .now) (a .j) (16 - l .k) (l .last) _ (next-is (record { places = a .places .now; ranks = a .ranks .now; sendings = a .sendings .now; count = a .count }) (a .whole .now) (a .j) (l .last) _ _ _ (c .before .before .before .before .before .list-heard .ensures) (c .before .next-sender .ensures)) (c .if1 .taken))
+    finish (l .inv .1) (heard-none (record { places = a .listed .now; ranks = a .ranks .now; sendings = a .sendings .now; count = a .count }) (a .whole .now) (a .j) (16 - l .k) (l .last) _ (next-is (record { places = a .listed .now; ranks = a .ranks .now; sendings = a .sendings .now; count = a .count }) (a .whole .now) (a .j) (l .last) _ _ _ (c .before .before .before .before .before .list-heard .ensures) (c .before .next-sender .ensures)) (c .if1 .taken))
 
 returns-2 : tie.Need-returns-2 Inv-loop μ-loop
 returns-2 c =
@@ -44,7 +44,7 @@ returns-2 c =
     let so = sym (e .0) ∙ c .if2 .taken in
     l .inv .1 .goes _ _
     (silent-hears
-    (stays-all (record { places = a .places .now; ranks = a .ranks .now; sendings = a .sendings .now; count = a .count }) (a .whole .now) (a .j) (a .frame) (l .now) (prospect-is (l .now .role) (fst-true (isProspect (l .now .role)) _ so)) (e .1) (16 - l .k) (l .last) _ (next-is (record { places = a .places .now; ranks = a .ranks .now; sendings = a .sendings .now; count = a .count }) (a .whole .now) (a .j) (l .last) _ _ _ (c .before .before .before .before .before .before .before .before .list-heard .ensures) (c .before .before .before .before .next-sender .ensures))
+    (stays-all (record { places = a .listed .now; ranks = a .ranks .now; sendings = a .sendings .now; count = a .count }) (a .whole .now) (a .j) (a .frame) (l .now) (prospect-is (l .now .role) (fst-true (isProspect (l .now .role)) _ so)) (e .1) (16 - l .k) (l .last) _ (next-is (record { places = a .listed .now; ranks = a .ranks .now; sendings = a .sendings .now; count = a .count }) (a .whole .now) (a .j) (l .last) _ _ _ (c .before .before .before .before .before .before .before .before .list-heard .ensures) (c .before .before .before .before .next-sender .ensures))
     (λ h. leb-true _ _ (snd-true (isProspect (l .now .role)) _ so))))
 
 hear-from-requires : tie.Need-hear-from-requires Inv-loop μ-loop
@@ -57,7 +57,7 @@ loop-again c =
     let p = c .before .before .before .hear-from in (
       omega (arith, c .before .before .before .before .before .before .before .before .before .before .before .before .before .loop-test .taken),
       turn (l .inv .1)
-          (heard-more (record { places = a .places .now; ranks = a .ranks .now; sendings = a .sendings .now; count = a .count }) (a .whole .now) (a .j) (l .k) (l .last) _ (c .before .before .before .before .before .before .before .before .before .before .before .before .before .loop-test .taken) (next-is (record { places = a .places .now; ranks = a .ranks .now; sendings = a .sendings .now; count = a .count }) (a .whole .now) (a .j) (l .last) _ _ _ (c .before .before .before .before .before .before .before .before .before .before .before .before .before .before .before .list-heard .ensures) (c .before .before .before .before .before .before .before .before .before .before .before .next-sender .ensures)) (c .before .before .before .before .before .before .before .before .before .before .if1 .left) refl)
+          (heard-more (record { places = a .listed .now; ranks = a .ranks .now; sendings = a .sendings .now; count = a .count }) (a .whole .now) (a .j) (l .k) (l .last) _ (c .before .before .before .before .before .before .before .before .before .before .before .before .before .loop-test .taken) (next-is (record { places = a .listed .now; ranks = a .ranks .now; sendings = a .sendings .now; count = a .count }) (a .whole .now) (a .j) (l .last) _ _ _ (c .before .before .before .before .before .before .before .before .before .before .before .before .before .before .before .list-heard .ensures) (c .before .before .before .before .before .before .before .before .before .before .before .next-sender .ensures)) (c .before .before .before .before .before .before .before .before .before .before .if1 .left) refl)
           (p .kept .1 .1 .1 .1 .0) (p .ensures),
     )
 
@@ -65,7 +65,7 @@ returns-3 : tie.Need-returns-3 Inv-loop μ-loop
 returns-3 c =
     let a = c .before .before .before .before .before .args in
     let l = c .before .loop in
-    finish (l .inv .1) (heard-out (record { places = a .places .now; ranks = a .ranks .now; sendings = a .sendings .now; count = a .count }) (a .whole .now) (a .j) (l .k) (l .last) (c .loop-test .left))
+    finish (l .inv .1) (heard-out (record { places = a .listed .now; ranks = a .ranks .now; sendings = a .sendings .now; count = a .count }) (a .whole .now) (a .j) (l .k) (l .last) (c .loop-test .left))
 
 pub hear-several-spec : {M : Type 1} → statement M
 hear-several-spec = tie.close (tie.spec Inv-loop μ-loop (λ c κs. (c .before .before .pre .0, (c .before .before .pre .1 .listed, refl))) loop-holds (λ c κs. c .before .before .before .list-heard .ensures .listed) (λ c. c .before .before .before .before .loop .inv .1 .kept) returns (λ c. omega arith) (λ c. search needs) (λ c κs. search needs) (λ c. c .before .before .before .before .before .before .before .loop .inv .1 .kept) returns-2 (λ c. omega arith) (λ c. search needs) (λ c. omega arith) (λ c. search needs) hear-from-requires (λ c. omega (arith, c .before .before .before .before .before .before .before .before .before .before .before .before .before .loop-test .taken)) (λ c. omega (arith, c .before .before .before .before .before .before .before .before .before .before .before .before .before .loop-test .taken)) loop-again (λ c. c .before .loop .inv .1 .kept) returns-3)

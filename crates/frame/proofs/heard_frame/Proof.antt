@@ -22,7 +22,7 @@ returns c =
 turn-all-requires : tie.Need-turn-all-requires
 turn-all-requires c κs =
     let p = c .before .before .before .before .before .before .before .before .before .before .before .before .before .before .before .before .before .before .pre in
-    (p .1 .0, (p .1 .1, (c .before .before .before .before .before .before .before .before .before .hearers .ensures, lists-all (c .before .before .before .before .before .before .before .before .before .before .before .ranks-of .ensures) (c .before .before .before .before .before .before .before .before .before .before .before .before .before .list-senders .ensures))))
+    (p .0, (p .1 .0, (p .1 .1, (c .before .before .before .before .before .before .before .before .before .hearers .ensures, lists-all (c .before .before .before .before .before .before .before .before .before .before .before .ranks-of .ensures) (c .before .before .before .before .before .before .before .before .before .before .before .before .before .list-senders .ensures)))))
 
 pub heard-frame-spec : {M : Type 1} → statement M
 heard-frame-spec = tie.close (tie.spec (λ c κs. (c .before .before .before .before .pre .1 .1, (refl, refl))) (λ c κs. search needs) (λ c κs. c .before .before .before .list-senders .ensures .listed) (λ c κs. search needs) (λ c κs. c .before .before .before .before .before .before .before .before .before .before .before .before .before .before .pre) (λ c. search needs) returns turn-all-requires (λ c. search needs) (λ c. c .before .before .turn-all .ensures))

@@ -9,10 +9,10 @@ use Rattle.frame.proofs.hearers.Statement.{statement}
 use Rattle.frame.proofs.hearers.Tie as tie
 
 abbrev Inv-loop : tie.InvT-loop
-Inv-loop places whole count heard₀ k₀ heard k = Hearers places whole k heard
+Inv-loop listed whole count heard₀ k₀ heard k = Hearers listed whole k heard
 
 abbrev μ-loop : tie.MeasureT-loop
-μ-loop places whole count heard₀ k₀ heard k = count - k
+μ-loop listed whole count heard₀ k₀ heard k = count - k
 
 loop-again : tie.Need-loop-again Inv-loop μ-loop
 loop-again c =

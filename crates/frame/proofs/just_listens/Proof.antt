@@ -2,10 +2,9 @@ use mathlib.Core.Path.{refl, sym, ap, _∙_}
 use Prim.Native.Nat.{ℕ}
 use native.Mathlib.Omega.{arith}
 use Rattle.server.specs.Timers.{aged}
-use Rattle.lists.proofs.Cases.{clash, fst-true, snd-true}
+use Rattle.lists.proofs.Cases.{clash, fst-true, snd-true, not-so}
 use Rattle.server.specs.Server.{sentBy}
 use Rattle.frame.proofs.Hearings.{just-listens}
-use Rattle.places.proofs.Words.{not-so}
 use Rattle.places.proofs.Order.{hears-at}
 use Rattle.frame.proofs.Lookup.{only-heard}
 use borrow.Author.Needs.{needs}
@@ -27,7 +26,7 @@ returns c e =
     let only = fst-true (c .before .before .only-listens .result) _ rest in
     let age = not-so (c .aged .result) (snd-true (c .before .before .only-listens .result) _ rest) in
     just-listens (a .frame) (a .period) (a .s) x (sym (c .before .before .only-listens .ensures) ∙ only) (sym (c .aged .ensures ∙ ap (λ (n : ℕ). aged (a .frame) n (a .frame)) (c .before .silence-limit .ensures)) ∙ age)
-    (only-heard (record { places = a .places .now; ranks = a .ranks .now; sendings = a .sendings .now; count = a .count }) (a .whole .now) (a .j) (v .1) one first ∙ sym (ap sentBy (c .before .before .before .before .sender .ensures)))
+    (only-heard (record { places = a .listed .now; ranks = a .ranks .now; sendings = a .sendings .now; count = a .count }) (a .whole .now) (a .j) (v .1) one first ∙ sym (ap sentBy (c .before .before .before .before .sender .ensures)))
 
 returns-2 : tie.Need-returns-2
 returns-2 c e = absurd (clash e refl)

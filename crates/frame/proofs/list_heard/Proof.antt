@@ -11,12 +11,12 @@ use Rattle.frame.proofs.list_heard.Statement.{statement}
 use Rattle.frame.proofs.list_heard.Tie as tie
 
 abbrev Inv-loop : tie.InvT-loop
-Inv-loop places whole near₀ count j m₀ k₀ near m k = (k ≤ count) × Nearing whole j places near m k
+Inv-loop listed whole near₀ count j m₀ k₀ near m k = (k ≤ count) × Nearing whole j listed near m k
 
 abbrev μ-loop : tie.MeasureT-loop
-μ-loop places whole near₀ count j m₀ k₀ near m k = count - k
+μ-loop listed whole near₀ count j m₀ k₀ near m k = count - k
 
-place : (c : tie.After-i Inv-loop μ-loop) → getD (c .before .before .before .args .places .now) (c .before .before .loop .k) 0 < 16
+place : (c : tie.After-i Inv-loop μ-loop) → getD (c .before .before .before .args .listed .now) (c .before .before .loop .k) 0 < 16
 place c = c .before .before .before .pre .1 .0 .places (c .before .before .loop .k) (c .before .loop-test .taken)
 
 loop-again : tie.Need-loop-again Inv-loop μ-loop

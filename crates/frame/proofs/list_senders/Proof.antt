@@ -9,10 +9,10 @@ use Rattle.frame.proofs.list_senders.Statement.{statement}
 use Rattle.frame.proofs.list_senders.Tie as tie
 
 abbrev Inv-loop : tie.InvT-loop
-Inv-loop words places₀ sendings₀ n count₀ i₀ places sendings count i = Listing (serversOf words) places sendings count i
+Inv-loop words listed₀ sendings₀ n count₀ i₀ listed sendings count i = Listing (serversOf words) listed sendings count i
 
 abbrev μ-loop : tie.MeasureT-loop
-μ-loop words places₀ sendings₀ n count₀ i₀ places sendings count i = n - i
+μ-loop words listed₀ sendings₀ n count₀ i₀ listed sendings count i = n - i
 
 loop-again : tie.Need-loop-again Inv-loop μ-loop
 loop-again c =

@@ -1,15 +1,16 @@
-use mathlib.Core.Path.{_≡_, refl, subst, sym}
+use mathlib.Core.Path.{refl, subst, sym, _∙_}
 use mathlib.Core.List.{List}
 use Prim.Native.Nat.{_+_, _-_, _<_}
 use native.Mathlib.Omega.{arith}
-use lib.ListN.{length, drop}
+use lib.ListN.{drop}
 use Rattle.lists.proofs.MapLoop.{Mapped}
 use Rattle.lists.proofs.MapLoop as map
 use Rattle.server.specs.declared.Server.{Server}
 use Rattle.server.specs.Server.{absent}
-use Rattle.places.specs.Words.{serversOf}
+use Rattle.places.specs.Words.{serversOf, Keeps}
 use Rattle.frame.specs.Steps.{ticked, tickLines}
 use Rattle.places.proofs.Words.{long-of}
+use Rattle.places.proofs.Canonical.{keeps-all, keeps-then}
 use Rattle.frame.proofs.Writing.{Toward}
 use Rattle.frame.proofs.Writing as out
 use Rattle.frame.proofs.Frames.{ticks-more, ticks-as}
@@ -19,7 +20,7 @@ use Rattle.frame.proofs.tick_all.Tie as tie
 
 abbrev Inv-loop : tie.InvT-loop
 Inv-loop words₀ period n before out₀ wet at frame r₀ j₀ words out r j =
-    (length words ≡ 80)
+    Keeps words₀ words
     × (Mapped (ticked frame period) (serversOf words₀) 16 j (serversOf words)
     × Toward wet out₀ r₀ (tickLines frame period (serversOf words₀)) out r (tickLines frame period (drop j (serversOf words₀))))
 
@@ -27,7 +28,7 @@ abbrev μ-loop : tie.MeasureT-loop
 μ-loop words₀ period n before out₀ wet at frame r₀ j₀ words out r j = n - j
 
 loop-holds : tie.Need-loop-holds Inv-loop μ-loop
-loop-holds c = (c .before .pre .0, (map.begin (long-of _), out.begin refl))
+loop-holds c = (keeps-all, (map.begin (long-of _), out.begin refl))
 
 loop-again : tie.Need-loop-again Inv-loop μ-loop
 loop-again c =
@@ -36,7 +37,7 @@ loop-again c =
     let h : l .j < 16 = omega (arith, c .before .before .before .before .before .before .before .before .pre .1 .1 .few, c .before .before .before .before .before .loop-test .taken) in
     let p = c .before .before .tick-at .ensures in
     let q = ticks-as (map.ahead absent (l .inv .1 .0) h) (p .1) in (
-      p .0,
+      keeps-then (l .inv .0) (p .0),
       (
         subst (λ (x : List Server). Mapped (ticked (a .before + 1) (a .period)) (serversOf (a .words .now)) 16 (l .j + 1) x) (sym (q .0)) (map.turn absent (l .inv .1 .0) h refl),
         out.turn (l .inv .1 .1) (ticks-more (a .before + 1) (a .period) (serversOf (a .words .now)) (l .j) absent (rw (long-of (a .words .now)) h)) (c .before .before .tick-at .kept .1 .1 .1 .1 .0) (q .1),
@@ -56,4 +57,4 @@ returns c =
     )
 
 pub tick-all-spec : {M : Type 1} → statement M
-tick-all-spec = tie.close (tie.spec Inv-loop μ-loop (λ c. omega arith) loop-holds (λ c κs. (c .before .before .before .loop .inv .0, omega (arith, c .before .before .before .before .before .pre .1 .1 .few))) (λ c. omega arith) (λ c. omega arith) loop-again (λ c. c .before .loop .inv .1 .1 .kept) returns)
+tick-all-spec = tie.close (tie.spec Inv-loop μ-loop (λ c. omega arith) loop-holds (λ c κs. (c .before .before .before .loop .inv .0 .long ∙ c .before .before .before .before .before .pre .0, omega (arith, c .before .before .before .before .before .pre .1 .1 .few))) (λ c. omega arith) (λ c. omega arith) loop-again (λ c. c .before .loop .inv .1 .1 .kept) returns)

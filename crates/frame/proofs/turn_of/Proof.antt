@@ -3,7 +3,8 @@ use mathlib.Core.Path.{_≡_, _∙_, sym}
 use lib.ListN.{getD}
 use Rattle.server.specs.Server.{cleared}
 use Rattle.lists.proofs.Cases.{on, or-false}
-use Rattle.frame.specs.Steps.{SenderList, ticksIn, inboxBy}
+use Rattle.frame.specs.Answers.{ticksIn}
+use Rattle.frame.specs.Steps.{SenderList, inboxBy}
 use Rattle.frame.proofs.Hearings.{idle-turn}
 use Rattle.frame.proofs.Heeding.{and-false, Silent, silent-nothing, aside-still}
 use Rattle.frame.proofs.Still.{still-heard}
@@ -18,7 +19,7 @@ returns-2 c =
     let p = c .before .before .before .before .before .before .pre in
     let e = or-false (getD (a .heard .now) (a .j) false && c .before .before .before .takes-part .result) (c .before .before .ticks .result) (c .before .if1 .left) in
     let quiet : ticksIn (a .s .role) (a .frame) (a .period) (a .s) ≡ false = sym (c .before .before .ticks .ensures) ∙ e .1 in
-    let r : SenderList = record { places = a .places .now; ranks = a .ranks .now; sendings = a .sendings .now; count = a .count } in
+    let r : SenderList = record { places = a .listed .now; ranks = a .ranks .now; sendings = a .sendings .now; count = a .count } in
     let silent : Silent (a .frame) (cleared (a .s)) (inboxBy r (a .whole .now) (a .j)) (cleared (a .s)) =
     on (and-false (getD (a .heard .now) (a .j) false) (c .before .before .before .takes-part .result) (e .0))
     (λ h. silent-nothing (unheard r (a .whole .now) (a .j) (p .1 .1 .listed) (p .0 .none (a .j) (p .1 .0) h)))

@@ -18,12 +18,12 @@ use Rattle.frame.proofs.turned.Statement.{statement}
 use Rattle.frame.proofs.turned.Tie as tie
 
 abbrev Inv-loop : tie.InvT-loop
-Inv-loop places ranks sendings whole heard count period n before out₀ wet at servers frame next₀ r₀ j₀ out next r j =
+Inv-loop listed ranks sendings whole heard count period n before out₀ wet at servers frame next₀ r₀ j₀ out next r j =
     Mapped (turned (stateOf before period servers whole) frame) servers 16 j next
     × Toward wet out₀ r₀ (turnsLines (stateOf before period servers whole) frame 0 servers) out r (turnsLines (stateOf before period servers whole) frame j (drop j servers))
 
 abbrev μ-loop : tie.MeasureT-loop
-μ-loop places ranks sendings whole heard count period n before out₀ wet at servers frame next₀ r₀ j₀ out next r j = n - j
+μ-loop listed ranks sendings whole heard count period n before out₀ wet at servers frame next₀ r₀ j₀ out next r j = n - j
 
 turn-of-requires : tie.Need-turn-of-requires Inv-loop μ-loop
 turn-of-requires c κs =

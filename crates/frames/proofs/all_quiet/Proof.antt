@@ -3,11 +3,10 @@ use mathlib.Core.Path.{refl, sym, subst}
 use Prim.Native.Nat.{_+_, _-_}
 use native.Mathlib.Omega.{arith}
 use lib.Dec.{leb}
-use Rattle.lists.proofs.Cases.{clash, same-choice, fst-true, snd-true}
+use Rattle.lists.proofs.Cases.{clash, same-choice, fst-true, snd-true, not-some}
 use Rattle.server.specs.declared.Server.{Server}
 use Rattle.places.specs.Words.{serversOf}
 use Rattle.frame.specs.Steps.{Rests}
-use Rattle.places.proofs.Words.{not-some}
 use Rattle.frame.proofs.Quiet.{Resting, rest-begin, rest-turn}
 use Rattle.frame.proofs.Still.{still-begin, rest-early}
 use Rattle.frame.proofs.Loud.{Louder, loud-begin, loud-turn, loud-end}

@@ -7,13 +7,14 @@ use lib.ListN.{length, getD}
 use Rattle.lists.specs.Lists.{mapFrom}
 use Rattle.server.specs.declared.Server.{Server}
 use Rattle.server.specs.Server.{absent}
-use Rattle.server.specs.Period.{beatLimit}
+use Rattle.periods.specs.Period.{beatLimit}
 use Rattle.places.specs.Words.{serversOf}
 use Rattle.frame.specs.Answers.{stateOf}
 use Rattle.frames.specs.Steps.{pulsed, Beats, Stretches}
 use Rattle.places.proofs.Words.{long-of}
+use Rattle.frames.proofs.Moving.{moves-none, moves-on, moves-then}
 use Rattle.frames.proofs.Fitting.{stretch-fares}
-use Rattle.frames.proofs.Beating.{beats-last, beats-stretch, beats-none}
+use Rattle.frames.proofs.Beating.{beats-last, beats-first, beats-stretch, beats-none}
 use borrow.Author.Needs.{needs}
 use Rattle.frames.proofs.beat_along.Statement.{statement}
 use Rattle.frames.proofs.beat_along.Tie as tie
@@ -51,7 +52,7 @@ returns c =
     (subst (λ (n : ℕ). Beats n (beatLimit (a .period)) (a .target) (c .before .before .before .before .before .before .before .before .before .before .before .server .result .identity) (a .out .now) (a .at) m d) next (beats .ensures)) in
     let g = beats-stretch (a .period) (a .whole .now) l (a .b) (a .frame) _ (a .target) (long-of (a .words .now)) (p .1 .1 .1 .1) q (omega (arith, next, c .before .before .before .before .if1 .taken)) in
     let ch = stateOf (a .frame) (a .period) l (a .whole .now) in (
-      c .settle .ensures .0,
+      moves-on (c .settle .ensures .0) (omega (arith, limit .ensures, p .1 .1 .1 .1 .ahead, next, beats-first (beats .ensures) (c .before .before .before .before .if1 .taken))),
       subst (λ (x : List Server). Stretches ch (a .target) (a .out .now) (a .at) x (record { frame = m .next - limit .result + 1; at = m .at; full = Bool.false }) d) (sym (c .settle .ensures .1))
           (subst (λ (n : ℕ). Stretches ch (a .target) (a .out .now) (a .at) (mapFrom 0 (pulsed (a .b) (m .next - n)) l) (record { frame = m .next - n + 1; at = m .at; full = Bool.false }) d) (sym (limit .ensures)) g),
     )
@@ -67,7 +68,7 @@ returns-2 c =
     let played = c .before .before .play-fitting in
     let none = beats-none (beats .ensures) (omega (arith, p .1 .1 .1 .1 .long)) (c .before .before .before .before .before .if1 .left) in
     let ch = stateOf (a .frame) (a .period) (serversOf (a .words .now)) (a .whole .now) in (
-      played .ensures .0,
+      moves-then (moves-none (p .1 .1 .1 .0 .from)) (played .ensures .0),
       subst (λ (d : List ℕ). Stretches ch (a .target) d (a .at) (serversOf (played .last .0)) (played .result) (played .last .1 .1 .1 .1 .0)) none
           (stretch-fares ch (p .1 .1 .1 .0) (omega (arith, p .1 .0, ap length none)) (p .1 .1 .0 .1) (played .ensures .1)),
     )

@@ -2,9 +2,9 @@ use mathlib.Core.Path.{sym, subst}
 use Prim.Native.Nat.{ℕ, _+_, _-_, _≤_}
 use native.Mathlib.Omega.{arith}
 use lib.ListN.{length}
-use Rattle.server.specs.declared.Said.the-variants.{One}
-use Rattle.server.specs.declared.Word.the-variants.{Beat}
-use Rattle.server.specs.Period.{beatLimit}
+use Rattle.roles.specs.declared.Said.the-variants.{One}
+use Rattle.roles.specs.declared.Word.the-variants.{Beat}
+use Rattle.periods.specs.Period.{beatLimit}
 use Rattle.lines.specs.Lines.{linesOf}
 use Rattle.frames.specs.Steps.{Beats}
 use Rattle.frames.proofs.Beating.{going-on, beat-long, said-to, beats-begin, beats-turn}

@@ -7,10 +7,9 @@ use lib.Dec.{leb, ltb}
 use mathlib.Core.Bool.{_||_, false}
 use Rattle.server.specs.declared.Server.{Server}
 use Rattle.server.specs.Server.{absent}
-use Rattle.server.specs.Period.{beatLimit}
-use Rattle.lists.proofs.Cases.{or-false}
+use Rattle.periods.specs.Period.{beatLimit}
+use Rattle.lists.proofs.Cases.{or-false, not-some}
 use Rattle.places.specs.Words.{serversOf}
-use Rattle.places.proofs.Words.{not-some}
 use Rattle.frames.specs.Steps.{AllWait}
 use Rattle.frames.proofs.Beating.{calm-is}
 use borrow.Author.Needs.{needs}

@@ -9,7 +9,7 @@ use Rattle.frames.proofs.count_next.Tie as tie
 returns : tie.Need-returns
 returns c =
     let a = c .before .before .before .before .before .before .before .args in
-    next-counted (stateOf (a .frame) (a .period) (serversOf (a .words .now)) (a .whole .now)) (a .target) (c .before .before .before .before .before .if1 .taken) (omega (arith, c .before .before .before .before .before .if1 .taken)) (c .before .before .count .ensures .1)
+    next-counted (stateOf (a .frame) (a .period) (serversOf (a .words .now)) (a .whole .now)) (a .target) (c .before .before .before .before .before .if1 .taken) (omega (arith, c .before .before .before .before .before .if1 .taken)) (c .before .before .count .ensures)
 
 returns-2 : tie.Need-returns-2
 returns-2 c = let a = c .before .before .args in next-none (stateOf (a .frame) (a .period) (serversOf (a .words .now)) (a .whole .now)) (a .target) (c .if1 .left)

@@ -1,9 +1,8 @@
 use mathlib.Core.Path.{refl, sym}
 use Prim.Native.Nat.{_-_}
 use native.Mathlib.Omega.{arith}
-use Rattle.lists.proofs.Cases.{clash}
+use Rattle.lists.proofs.Cases.{clash, not-some}
 use Rattle.places.specs.Words.{serversOf}
-use Rattle.places.proofs.Words.{not-some}
 use Rattle.frame.proofs.Still.{still-begin}
 use Rattle.frame.proofs.Loud.{Louder, loud-begin, loud-turn, loud-end}
 use Rattle.frames.proofs.nobody_sent.Statement.{statement}

@@ -1,8 +1,8 @@
 -- The loop's invariant: no place before i has the identity.
+use mathlib.Core.Path.{sym, _∙_}
 use Prim.Native.Nat.{_-_}
 use native.Mathlib.Omega.{arith}
 use borrow.Author.Needs.{needs}
-use borrow.Author.Tests.{eq-eqb, ne-eqb}
 use Rattle.lists.proofs.Cases.{length-mapped}
 use Rattle.lists.proofs.FindLoop as search-loop
 use Rattle.server.specs.Server.{absent}
@@ -18,10 +18,10 @@ abbrev μ-loop : tie.MeasureT-loop
 
 returns : tie.Need-returns Inv-loop μ-loop
 unfolding placeIn
-returns c = search-loop.hit absent (c .before .before .before .before .loop .inv) (omega arith) (eq-eqb _ _ (c .if1 .taken))
+returns c = search-loop.hit absent (c .before .before .before .before .loop .inv) (omega arith) (sym (c .before .named .ensures) ∙ c .if1 .taken)
 
 loop-again : tie.Need-loop-again Inv-loop μ-loop
-loop-again c = search-loop.miss absent (c .before .before .before .before .loop .inv) (omega arith) (ne-eqb _ _ (c .if1 .left))
+loop-again c = search-loop.miss absent (c .before .before .before .before .loop .inv) (omega arith) (sym (c .before .named .ensures) ∙ c .if1 .left)
 
 returns-2 : tie.Need-returns-2 Inv-loop μ-loop
 unfolding placeIn
@@ -36,6 +36,7 @@ place-in-spec =
     (λ c. search-loop.begin (search (needs, length-mapped)))
     (λ c. omega arith)
     (λ c. search (needs, length-mapped))
+    (λ c κs. search needs)
     returns
     (λ c. omega arith)
     (λ c. omega arith)

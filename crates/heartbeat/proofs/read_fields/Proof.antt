@@ -1,10 +1,9 @@
 use mathlib.Core.Path.{sym, ap, ap₂, _∙_}
 use native.Mathlib.Omega.{arith}
 use borrow.Author.Needs.{needs}
-use Rattle.refusal.specs.Answer.{inTurn}
+use Rattle.refusal.specs.Answer.{inTurn, numberOf}
 use Rattle.text.specs.Number.{ofNumber, readNumber}
 use Rattle.text.proofs.Reading.{number-within}
-use Rattle.refusal.specs.Answer.{numberOf}
 use Rattle.refusal.proofs.Answers.{number-some, turn-refused}
 use Rattle.heartbeat.specs.Heartbeat.{readFields}
 use Rattle.heartbeat.proofs.Fields.{next-field}

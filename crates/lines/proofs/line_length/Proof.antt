@@ -1,6 +1,6 @@
 use native.Mathlib.Omega.{arith}
-use Rattle.server.specs.declared.Word.the-variants as word
-use Rattle.server.specs.Words.{wordBytes}
+use Rattle.roles.specs.declared.Word.the-variants as word
+use Rattle.roles.specs.Words.{wordBytes}
 use Rattle.lines.proofs.Pieces.{few, line-long, word-short}
 use borrow.Author.Needs.{needs}
 use Rattle.lines.proofs.line_length.Statement.{statement}

@@ -10,7 +10,7 @@ returns c =
     rw (← refused-pieces (a .frame) (a .identity) (a .n))
     (chain
     (chain
-    (chain (chain (chain (first-piece (rw (c .before .before .before .before .before .before .before .before .before .before .before .before .before .before .before .before .before .before .before .before .before .before .before .before .before .before .before .before .label .ensures) at (c .before .before .before .before .before .before .before .before .before .before .before .before .before .before .before .before .before .before .before .before .before .before .before .before .before .write-bytes .ensures))) (c .before .before .before .before .before .before .before .before .before .before .before .before .before .before .before .before .before .before .before .before .then-bytes .ensures)) (c .before .before .before .before .before .before .before .before .before .before .before .before .before .before .before .before .then-number .ensures)) (c .before .before .before .before .before .before .before .before .before .before .before .then-bytes2 .ensures))
+    (chain (chain (chain (first-piece (rw (c .before .before .before .before .before .before .before .before .before .before .before .before .before .before .before .before .before .before .before .before .before .before .before .before .before .before .before .before .label-of .ensures) at (c .before .before .before .before .before .before .before .before .before .before .before .before .before .before .before .before .before .before .before .before .before .before .before .before .before .write-bytes .ensures))) (c .before .before .before .before .before .before .before .before .before .before .before .before .before .before .before .before .before .before .before .before .then-bytes .ensures)) (c .before .before .before .before .before .before .before .before .before .before .before .before .before .before .before .before .then-number .ensures)) (c .before .before .before .before .before .before .before .before .before .before .before .then-bytes2 .ensures))
     (c .before .before .before .before .before .before .before .then-number2 .ensures))
     (c .before .before .then-bytes3 .ensures))
 

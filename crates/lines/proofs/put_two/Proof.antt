@@ -1,6 +1,6 @@
 use native.Mathlib.Omega.{arith}
 use lib.ListN.{length-append}
-use Rattle.server.specs.Words.{wordBytes}
+use Rattle.roles.specs.Words.{wordBytes}
 use Rattle.lines.specs.Lines.{line}
 use Rattle.lines.proofs.Puts.{room, then}
 use borrow.Author.Needs.{needs}

@@ -1,7 +1,7 @@
 use mathlib.Core.Path.{refl}
 use native.Mathlib.Omega.{arith}
 use lib.ListN.{length-append}
-use Rattle.server.specs.Words.{wordBytes}
+use Rattle.roles.specs.Words.{wordBytes}
 use Rattle.lines.specs.Lines.{line, linesOf}
 use borrow.Author.Needs.{needs}
 use Rattle.lines.proofs.said_length.Statement.{statement}

@@ -3,7 +3,7 @@ use mathlib.Core.Path.{sym, _∙_}
 use native.Mathlib.Omega.{arith}
 use borrow.Author.Tests.{leb-true, leb-false}
 use lib.ListN.{length, length-append}
-use Rattle.server.specs.Words.{wordBytes}
+use Rattle.roles.specs.Words.{wordBytes}
 use Rattle.lines.specs.Lines.{line}
 use Rattle.lines.proofs.Saying.{says, says-not}
 use borrow.Author.Needs.{needs}

@@ -1,8 +1,9 @@
 use mathlib.Core.Path.{_≡_, ap₂, _∙_}
 use Prim.Native.Nat.{ℕ, _+_, _*_}
 use native.Mathlib.Omega.{arith}
-use Rattle.places.specs.Words.{headNumber, serversOf}
-use Rattle.places.proofs.Words.{put5, length5, store-is, role-small}
+use lib.ListN.{length}
+use Rattle.places.specs.Words.{headNumber}
+use Rattle.places.proofs.Words.{put5, spliced, role-small}
 use borrow.Author.Needs.{needs}
 use Rattle.places.proofs.store.Statement.{statement}
 use Rattle.places.proofs.store.Tie as tie
@@ -21,11 +22,13 @@ returns c =
     let s = a .s in
     let r = c .before .rank-number .ensures in
     let q = c .sending-number .ensures in
-    let head : c .before .before .role-number .result * 16777216 + c .before .rank-number .result ≡ headNumber s = ap₂ (λ (x y : ℕ). x * 16777216 + y) (c .before .before .role-number .ensures) (r .0) in (
-      length5 (a .words .now) (5 * a .i) _ _ _ _ _ ∙ c .before .before .before .pre .0,
-      ap₂ (λ (x y : ℕ). serversOf (put5 (a .words .now) (5 * a .i) x (s .silence) (s .beat) (s .prospect) y)) head (q .0)
-          ∙ store-is (a .words .now) (a .i) s (c .before .before .before .pre .0) (c .before .before .before .pre .1) (record { identity = r .1 .0; priority = r .1 .1; beats = q .1 .0; pass = q .1 .1 }),
-    )
+    let head : c .before .before .role-number .result * 16777216 + c .before .rank-number .result ≡ headNumber s = ap₂ (λ (x y : ℕ). x * 16777216 + y) (c .before .before .role-number .ensures) (r .0) in
+    record {
+      numbers =
+          ap₂ (λ (x y : ℕ). put5 (a .words .now) (5 * a .i) x (s .silence) (s .beat) (s .prospect) y) head (q .0)
+          ∙ spliced (a .words .now) (5 * a .i) _ _ _ _ _ (omega (arith, c .before .before .before .pre .0, c .before .before .before .pre .1));
+      fits = record { identity = r .1 .0; priority = r .1 .1; beats = q .1 .0; pass = q .1 .1 };
+    }
 
 pub store-spec : {M : Type 1} → statement M
 store-spec = tie.close (tie.spec (λ c. omega arith) (λ c κs. search needs) mul-head (λ c κs. search needs) add-head (λ c κs. search needs) (λ c. omega arith) (λ c. omega arith) (λ c. omega arith) (λ c. omega arith) (λ c. omega arith) (λ c. omega arith) (λ c. omega arith) (λ c. omega arith) (λ c. omega arith) (λ c. omega arith) (λ c. omega arith) (λ c. omega arith) (λ c. omega arith) (λ c. omega arith) returns)

@@ -1,5 +1,5 @@
 use mathlib.Core.Path.{sym, ap, _∙_}
-use Rattle.server.specs.Period.{ofPeriod}
+use Rattle.periods.specs.Period.{ofPeriod}
 use Rattle.plain.proofs.Periods.{period-made, period-refused}
 use borrow.Author.Needs.{needs}
 use Rattle.plain.proofs.period_of.Statement.{statement}

@@ -11,7 +11,7 @@ returns : tie.Need-returns
 returns c =
     let a = c .before .before .before .before .before .before .before .before .before .before .before .args in
     let e = rw (c .before .before .before .before .before .before .before .before .is-verb .ensures, c .before .before .before .before .before .before .before .before .before .is-channel .ensures) at (c .before .before .before .before .before .before .before .if1 .taken) in
-    rw (c .answered .ensures) (answers-well _ _ _ _ _ _ _ _ e (fst-true (isChannel (a .channel)) (isVerb (a .verb)) e) (gives-of (a .channel) (λ s. verbOutcome s (verbOf (a .verb)) (a .a) (a .b)) (c .before .before .before .before .before .before .channel-from .ensures) (rw (c .before .before .before .before .before .verb-of .ensures) at (c .before .before .before .verb .ensures))))
+    rw (c .answered .ensures) (answers-well _ _ _ _ _ _ _ _ e (fst-true (isChannel (a .channel)) (isVerb (a .verb)) e) (gives-of (a .channel) (λ s. verbOutcome s (verbOf (a .verb)) (a .a) (a .b)) (c .before .before .before .before .before .before .channel-from .ensures) (rw (c .before .before .before .before .before .verb-of .ensures) at (c .before .before .before .verb .ensures .gives))))
 
 returns-2 : tie.Need-returns-2
 returns-2 c = rw (c .unanswered .ensures) (answers-ill _ _ _ _ (rw (c .before .before .is-verb .ensures, c .before .before .before .is-channel .ensures) at (c .before .if1 .left)))

@@ -1,5 +1,5 @@
 use mathlib.Core.Path.{refl, ap, _∙_}
-use Rattle.server.specs.Words.{said}
+use Rattle.roles.specs.Words.{said}
 use Rattle.verbs.proofs.Acting.{cut-does, mend-does, others-do}
 use borrow.Author.Needs.{needs}
 use Rattle.verbs.proofs.attempt.Statement.{statement}

@@ -10,7 +10,7 @@ returns c =
     (a .x)
     (a .y)
     (a .z)
-    (a .length)
+    (a .longest)
     (a .s .now)
     (c .before .before .before .before .before .before .before .before .before .before .before .before .before .after-field .ensures)
     (c .before .before .before .before .before .before .before .before .before .before .before .before .after-field2 .ensures)

@@ -3,8 +3,7 @@ use mathlib.Core.Path.{refl, sym, _∙_}
 use borrow.Author.Tests.{lt-ltb, le-ltb}
 use Rattle.lists.proofs.Cases.{chosen, other}
 use Rattle.group.specs.Advance.{timeRefusal, timeOutcome}
-use Rattle.group.proofs.Answering.{gives-as}
-use Rattle.channel.proofs.Answering.{answers-refused}
+use Rattle.channel.proofs.Answering.{answers-refused, answers-as}
 use borrow.Author.Needs.{needs}
 use Rattle.channel.proofs.Channel.advance_to.Statement.{statement}
 use Rattle.channel.proofs.Channel.advance_to.Tie as tie
@@ -25,7 +24,7 @@ returns-2 c =
 returns-3 : tie.Need-returns-3
 unfolding timeRefusal
 returns-3 c =
-    gives-as (sym (chosen _ (lt-ltb _ _ (c .before .before .before .before .before .before .if1 .left)) ∙ other _ (le-ltb _ _ (c .before .before .before .before .if2 .left)))) refl refl (c .before .before .run .ensures)
+    answers-as (sym (chosen _ (lt-ltb _ _ (c .before .before .before .before .before .before .if1 .left)) ∙ other _ (le-ltb _ _ (c .before .before .before .before .if2 .left)))) refl refl (c .before .before .run .ensures)
 
 pub advance-to-spec : {M : Type 1} → statement M
 advance-to-spec = tie.close (tie.spec (λ c κs. search needs) returns (λ c κs. search needs) returns-2 (λ c κs. search needs) (λ c. search needs) returns-3)

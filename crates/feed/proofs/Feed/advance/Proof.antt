@@ -14,14 +14,14 @@ returns : tie.Need-returns
 returns c l =
     let a = c .before .before .before .before .before .before .before .before .before .args in
     let f = fedOf (a .self) l (a .words .now) (a .whole .now) in
-    let q = within-done (channelOf (a .self) (a .words .now) (a .whole .now)) (a .time) (c .before .before .before .before .before .before .before .before .before .pre) (c .before .before .before .before .run-within .ensures) (c .enum-told .given .1) in
+    let q = within-done (channelOf (a .self) (a .words .now) (a .whole .now)) (a .time) (c .before .before .before .before .before .before .before .before .before .pre) (c .before .before .before .before .run-within .ensures .gives) (c .enum-told .given .1) in
     let g : State → Fed = λ s. record { over = f .over; number = f .number; line = f .line; day = on atEntries s } in
     makes-written (q .0) (ap g (q .1))
 
 returns-2 : tie.Need-returns-2
 returns-2 c l =
     let a = c .before .before .before .before .before .before .before .before .before .before .args in
-    let g = c .before .before .before .before .before .run-within .ensures in
+    let g = c .before .before .before .before .before .run-within .ensures .gives in
     makes-refused (within-not (channelOf (a .self) (a .words .now) (a .whole .now)) (a .time) (c .before .before .before .before .before .before .before .before .before .before .pre) g (c .before .verdict .given .1)) (same-fed (a .self) l (gives-kept g (c .before .verdict .given .1)))
 
 pub advance-spec : {M : Type 1} → statement M

@@ -1,8 +1,9 @@
 use mathlib.Core.Bool.{true}
 use mathlib.Core.List.{List}
-use mathlib.Core.Path.{ap₂}
+use mathlib.Core.Path.{sym, ap₂, _∙_}
 use lib.ListN.{replicate, take}
 use Rattle.server.specs.declared.Server.{Server}
+use Rattle.group.proofs.Made.{same-servers}
 use Rattle.frame.specs.Answers.{stateOf}
 use Rattle.feeding.specs.Fed.{Fed}
 use Rattle.feed.specs.declared.Feed.{Feed}
@@ -14,9 +15,10 @@ use Rattle.feed.proofs.Feed.listed.Tie as tie
 
 returns : tie.Need-returns
 returns c d l =
-    let a = c .before .before .before .args in
+    let a = c .before .before .before .before .args in
+    let same = c .before .before .words-of .ensures .servers ∙ c .before .before .before .servers .ensures ∙ sym (same-servers (a .table .servers) (c .before .before .before .before .pre .1)) in
     let f : Feed → List Server → Fed = λ x s. record { over = x .over; number = x .number; line = take (x .length) l; day = dayOf (x .stage) (stateOf 0 (a .period) s (replicate 256 true)) } in
-    makes-none (ap₂ f (c .turned .ensures) (c .before .before .words-of .ensures))
+    makes-none (ap₂ f (c .turned .ensures) same)
 
 pub listed-spec : {M : Type 1} → statement M
-listed-spec = tie.close (tie.spec (λ c κs. search needs) (λ c κs. search needs) returns)
+listed-spec = tie.close (tie.spec (λ c κs. search needs) (λ c κs. search needs) (λ c κs. search needs) returns)

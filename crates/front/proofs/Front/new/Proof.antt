@@ -1,5 +1,5 @@
 use mathlib.Core.Path.{sym, ap, _∙_}
-use Rattle.server.specs.Period.{ofPeriod}
+use Rattle.periods.specs.Period.{ofPeriod}
 use Rattle.front.proofs.Making.{no-server, no-period, made}
 use borrow.Author.Needs.{needs}
 use Rattle.front.proofs.Front.new.Statement.{statement}

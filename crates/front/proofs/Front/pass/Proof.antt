@@ -1,4 +1,4 @@
-use Rattle.server.specs.declared.Verb.the-variants.{Pass}
+use Rattle.roles.specs.declared.Verb.the-variants.{Pass}
 use Rattle.front.specs.Front.{FrontActs}
 use Rattle.front.proofs.Types.{front, actedNow, afterVerb, identity}
 use Rattle.front.proofs.InPlace1.{in-place-1}

@@ -1,4 +1,4 @@
-use Rattle.server.specs.declared.Verb.the-variants.{Restart}
+use Rattle.roles.specs.declared.Verb.the-variants.{Restart}
 use Rattle.front.specs.Front.{FrontActs}
 use Rattle.front.proofs.Types.{front, actedNow, afterVerb}
 use Rattle.front.proofs.InPlace0.{in-place-0}

@@ -1,0 +1,24 @@
+-- What a call of the printer answers.
+use mathlib.Core.Bool.{Bool}
+use mathlib.Core.Path.{_≡_}
+use mathlib.Core.List.{List, [], _∷_}
+use Prim.Native.Nat.{ℕ}
+use lib.ListN.{length}
+use Rattle.lists.specs.Choice.{choose}
+use Rattle.lists.specs.Splice.{splice}
+use Rattle.refusal.specs.Answer.{accepted, refused}
+use Rattle.text.specs.Write.{ofWritten}
+use Rattle.feeding.specs.Fed.{Fed}
+use Rattle.printer.specs.declared.Printed.{Printed}
+use Rattle.printer.specs.Print.{print, short}
+use Rattle.printer.specs.Laws.{Laws}
+
+-- the piece s, the last or not, and the lent slice d: 9 where the slice is too short for the next
+-- lines, and then nothing is taken, written or changed (`ShortDoesNothing`)
+pub record Prints (f : Fed) (s : List ℕ) (last : Bool) (d : List ℕ) (r : Printed) (f′ : Fed) (d′ : List ℕ) : Type 0 where
+  pub answer : ofWritten (r .written) ≡ choose (short f s last (length d)) (refused 9) (accepted (length (print f s last (length d) .lines) ∷ []))
+  pub used : r .used ≡ print f s last (length d) .used
+  pub over : r .over ≡ print f s last (length d) .fed .over
+  pub fed : f′ ≡ print f s last (length d) .fed
+  pub out : d′ ≡ splice d 0 (print f s last (length d) .lines)
+  pub laws : Laws

@@ -1,0 +1,4 @@
+pub mod Print
+pub mod Laws
+pub mod Answers
+pub mod Steps
