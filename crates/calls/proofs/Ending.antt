@@ -21,7 +21,7 @@ use Rattle.channel.specs.Answers.{state}
 use Rattle.group.specs.Table.{empty, freshRefusal, fresh}
 use Rattle.group.specs.Answers.{noChannel}
 use Rattle.group.specs.Calls.{channelAfter}
-use Rattle.settling.specs.Links.{NoLinkCut}
+use Rattle.group.specs.Links.{NoLinkCut}
 use Rattle.settling.specs.Demand.{InThoseRoles, settlingTime, Settles}
 use Rattle.settling.proofs.Demand.{settles}
 use Rattle.calls.specs.declared.Ended.{Ended}
@@ -29,6 +29,7 @@ use Rattle.calls.specs.Encoding.{callsOf}
 use Rattle.calls.specs.Running.{listed, listRefusal, RunsList}
 use Rattle.calls.specs.Steps.{ListRuns, Unopened}
 use Rattle.calls.proofs.Going.{how-many}
+use Rattle.calls.proofs.Chains.{single-calls-settle}
 use Rattle.calls.proofs.Encoded.{every-list-encodes}
 
 -- the channel that stands where none was opened
@@ -48,6 +49,7 @@ module _ (t : Table) (n : ℕ) (ks d e : List ℕ) where
         bytes = sym (other _ some);
         encodes = every-list-encodes;
         settles = λ z. absurd (omega (arith, number, number-some k));
+        singly = single-calls-settle;
       }
 
   -- 2, 6, 7
@@ -80,4 +82,5 @@ module _ (t : Table) (n : ℕ) (ks d e : List ℕ) where
             λ z uncut i l active.
             subst (Settles (settlingTime n)) (sym (w .channel))
             (settles n t (listed t n ks d e) q uncut i l (subst (λ (y : State). InThoseRoles y i) (w .channel) active));
+        singly = single-calls-settle;
       }

@@ -1,3 +1,4 @@
 pub mod Encoding
+pub mod Chains
 pub mod Running
 pub mod Steps

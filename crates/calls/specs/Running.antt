@@ -13,9 +13,10 @@ use Rattle.group.specs.Table.{most, freshRefusal, fresh}
 use Rattle.group.specs.Answers.{noChannel}
 use Rattle.group.specs.Calls.{Call, callChannel, callSlice, channelAfter, numbersOf}
 use Rattle.channel.specs.Answers.{state}
-use Rattle.settling.specs.Links.{NoLinkCut}
+use Rattle.group.specs.Links.{NoLinkCut}
 use Rattle.settling.specs.Demand.{InThoseRoles, settlingTime, Settles}
 use Rattle.calls.specs.declared.Ended.{Ended}
+use Rattle.calls.specs.Chains.{SingleCallsSettle}
 use Rattle.calls.specs.Encoding.{callOf, callsOf, EveryListEncodes}
 
 -- the bytes d that the calls are lent one after the other, after all of them
@@ -47,3 +48,5 @@ module _ (t : Table) (n : ℕ) (ks d e : List ℕ) where
     pub settles :
         ofVerdict (r .verdict) ≡ 0 → NoLinkCut (fresh t n) listed → (i : ℕ) → i < most → InThoseRoles (state (r .channel)) i →
         Settles (settlingTime n) (state (r .channel))
+    -- and of single calls, of which no list is made
+    pub singly : SingleCallsSettle

@@ -24,8 +24,9 @@ use Rattle.server.specs.Hearing.{fromHigher, fromLower, forThis, backupHears, p
 use Rattle.roles.specs.Words.{said}
 use Rattle.lines.specs.Lines.{linesOf}
 use Rattle.group.specs.Frame.{heardLines}
+use Rattle.roles.specs.Roles.{isActive}
 use Rattle.places.specs.Words.{rankNumber}
-use Rattle.places.specs.Roles.{isBackup, isStill, isProspect, takesPart}
+use Rattle.places.specs.Roles.{isBackup, isStill, isProspect}
 use Rattle.places.specs.Order.{overBy, comesBy, heardBy}
 use Rattle.frame.specs.Steps.{Out, Hears, heedsOnly, SenderList, senderOf, bestBy, nextBy, sendersBy, sentOf}
 use Rattle.places.proofs.Roles.{still-by}
@@ -193,6 +194,6 @@ pub and-false : (a b : Bool) → (a && b) ≡ false → (a ≡ false) ⊎ (b ≡
 and-false true b e = inr e
 and-false false b e = inl refl
 
-pub aside-still : (s : Server) → takesPart (s .role) ≡ false → isStill (cleared s) ≡ true
+pub aside-still : (s : Server) → isActive (s .role) ≡ false → isStill (cleared s) ≡ true
 unfolding sentAny choose
 aside-still s e = sym (still-by (s .role) false) ∙ ap (λ (b : Bool). not b && true) e

@@ -568,7 +568,7 @@ fn turn_of(
     ensures { λ r. ⌜ Turns (inboxBy (record { places = now (listed .entry); ranks = now (ranks .entry); sendings = now (sendings .entry); count = count }) (now (whole .entry)) j) frame period wet s (now (out .entry)) at r (now (out .exit)) ⌝ }
 {
     let role = s.role;
-    if (heard[j] & places::takes_part(role)) | ticks(s, period, frame) {
+    if (heard[j] & places::is_active(role)) | ticks(s, period, frame) {
         act(
             listed,
             ranks,

@@ -9,7 +9,7 @@ use native.Mathlib.Omega.{arith}
 use borrow.Author.Tests.{eq-eqb, ne-eqb, eqb-true, lt-ltb, ltb-true, lt-leb, le-leb}
 use lib.Dec.{ltb, eqb, leb}
 use lib.ListN.{length, drop, getD, set, replicate, length-append, length-set, length-replicate}
-use lib.Seq.{getD-set-other}
+use lib.Seq.{getD-set-same, getD-set-other}
 use Rattle.lists.specs.Choice.{choose}
 use Rattle.lists.specs.Lists.{mapFrom}
 use Rattle.lists.proofs.Cases.{tested, less, equal, on, chosen, other, and-left, and-right}
@@ -34,8 +34,9 @@ use Rattle.group.specs.Hearing.{place, linkOf, whole, noPlace, hearsFrom
 use Rattle.group.specs.Frame.{hearing, turned, advanced, frameLines}
 use Rattle.group.specs.Verbs.{placeOf, happens, linksAfter, did}
 use Rattle.group.specs.Advance.{stepOutcome, advancedBy, linesBy, timeRefusal, fitting, framesWithin, withinOutcome}
+use Rattle.group.specs.Links.{cutByVerb}
 use Rattle.group.specs.Calls.{Call, verb, advance, advanceTo, outcomeOf, sliceOf, callNumber, callChannel, callSlice, channelAfter, numbersOf}
-use Rattle.group.specs.Laws.{callLines, RefusedChangesNothing, AcceptedWritesItsLines, KeepsItsTable, EveryCallKeepsTheTable, frameThen, FramesCounted, OthersStay, OtherLinksStay, NothingSentNothingHeard, ListsJoin, linesAfter, AsManyAdvances, AreAdvances, WithinIsAdvances, OneMoreDoesNotFit, Laws}
+use Rattle.group.specs.Laws.{callLines, RefusedChangesNothing, AcceptedWritesItsLines, KeepsItsTable, EveryCallKeepsTheTable, frameThen, FramesCounted, OthersStay, OtherLinksStay, ItsLinkIsAsCut, NothingSentNothingHeard, ListsJoin, linesAfter, AsManyAdvances, AreAdvances, WithinIsAdvances, OneMoreDoesNotFit, Laws}
 use Rattle.group.proofs.Answering.{is-long}
 use Rattle.group.proofs.Places.{frame-after}
 use Rattle.group.proofs.Made.{tables-in-order, fresh-has-its-table}
@@ -111,6 +112,26 @@ pub other-links-stay : OtherLinksStay
 unfolding did
 other-links-stay c v a b d i j h =
     handed c (verb v a b d) (λ x. whole x i j ≡ whole c i j) refl (λ _. links-stay v (linkOf (placeOf c a) (placeOf c b)) (linkOf i j) (c .whole) h)
+
+twice : (b : Bool) → b ≡ not (not b)
+twice true = refl
+twice false = refl
+
+link-as-cut : (v : Verb) (k : ℕ) (l : List Bool) → k < length l → getD (linksAfter v k l) k false ≡ not (cutByVerb v (not (getD l k false)))
+link-as-cut Start k l h = twice _
+link-as-cut Ready k l h = twice _
+link-as-cut Unready k l h = twice _
+link-as-cut Pass k l h = twice _
+link-as-cut Crash k l h = twice _
+link-as-cut Restart k l h = twice _
+link-as-cut Cut k l h = getD-set-same l k false false h
+link-as-cut Mend k l h = getD-set-same l k true false h
+
+pub its-link-is-as-cut : ItsLinkIsAsCut
+unfolding did
+its-link-is-as-cut c v a b d e h =
+    ap (λ (x : State). whole x (placeOf c a) (placeOf c b)) (accepted c (verb v a b d) e)
+    ∙ link-as-cut v (linkOf (placeOf c a) (placeOf c b)) (c .whole) h
 
 -- ---- identity and priority
 
@@ -365,6 +386,7 @@ laws =
       frames = frames-counted;
       others = others-stay;
       links = other-links-stay;
+      link = its-link-is-as-cut;
       joined = lists-join;
       advances = as-many-advances;
       within = within-is-advances;

@@ -1,6 +1,6 @@
 -- Laws of tables, and of hearing and of every call on every channel, whether calls reach that channel or not. The contract of `State::fresh` has them all
 -- (`Laws`, below); the proof is `laws` of proofs/Laws.antt.
-use mathlib.Core.Bool.{true, false}
+use mathlib.Core.Bool.{true, false, not}
 use mathlib.Core.Path.{_≡_}
 use mathlib.Core.Logic.{_≢_}
 use mathlib.Core.List.{List, [], _∷_, _++_, List·Memᴰ}
@@ -20,6 +20,7 @@ use Rattle.group.specs.Hearing.{place, linkOf, whole, hearsFrom, over, n
 use Rattle.group.specs.Frame.{hearing}
 use Rattle.group.specs.Verbs.{placeOf}
 use Rattle.group.specs.Advance.{advancedBy, linesBy, framesWithin, withinOutcome}
+use Rattle.group.specs.Links.{cutByVerb}
 use Rattle.group.specs.Calls.{Call, verb, advance, advanceTo, outcomeOf, sliceOf, callNumber, callChannel, callSlice, channelAfter, numbersOf}
 
 -- ---- tables
@@ -136,6 +137,12 @@ OtherLinksStay =
     (c : State) (v : Verb) (a b : ℕ) (d : List ℕ) (i j : ℕ) → linkOf i j ≢ linkOf (placeOf c a) (placeOf c b) →
     whole (callChannel c (verb v a b d)) i j ≡ whole c i j
 
+-- an accepted verb leaves its own link cut or whole as `cutByVerb` says
+abbrev pub ItsLinkIsAsCut : Type 0
+ItsLinkIsAsCut =
+    (c : State) (v : Verb) (a b : ℕ) (d : List ℕ) → callNumber c (verb v a b d) ≡ 0 → linkOf (placeOf c a) (placeOf c b) < length (c .whole) →
+    whole (callChannel c (verb v a b d)) (placeOf c a) (placeOf c b) ≡ not (cutByVerb v (not (whole c (placeOf c a) (placeOf c b))))
+
 -- ---- lists of calls
 
 pub record Joins (c : State) (ks ls : List Call) : Type 0 where
@@ -193,6 +200,7 @@ pub record Laws : Type 0 where
   pub frames : FramesCounted
   pub others : OthersStay
   pub links : OtherLinksStay
+  pub link : ItsLinkIsAsCut
   pub joined : ListsJoin
   pub advances : AsManyAdvances
   pub within : WithinIsAdvances

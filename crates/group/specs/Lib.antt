@@ -5,5 +5,6 @@ pub mod Frame
 pub mod Verbs
 pub mod Advance
 pub mod Calls
+pub mod Links
 pub mod Laws
 pub mod Answers

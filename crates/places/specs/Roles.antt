@@ -29,15 +29,6 @@ isPrimary Backup = false
 isPrimary Prospect = false
 isPrimary Primary = true
 
--- it hears, and has a timer
-abbrev pub takesPart : Role → Bool
-takesPart Down = false
-takesPart Idle = false
-takesPart Sync = false
-takesPart Backup = true
-takesPart Prospect = true
-takesPart Primary = true
-
 -- in a role that neither hears nor has a timer, if nothing was sent
 abbrev pub stillIn : Role → Bool → Bool
 stillIn Down sent = not sent

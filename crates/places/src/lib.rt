@@ -12,7 +12,8 @@ ghost use Rattle.lists.specs.Choice.{choose};
 ghost use Rattle.server.specs.Server.{absent};
 ghost use Rattle.group.specs.Table.{placeIn, most};
 ghost use Rattle.group.specs.Hearing.{isPlace};
-ghost use Rattle.places.specs.Roles.{isBackup, isProspect, isPrimary, takesPart, isStill};
+ghost use Rattle.roles.specs.Roles.{isActive};
+ghost use Rattle.places.specs.Roles.{isBackup, isProspect, isPrimary, isStill};
 ghost use Rattle.places.specs.Words.{roleOf, rankNumber, sendingNumber, serverOf, serversOf, Packs, Puts, packed};
 ghost use Rattle.places.specs.Steps.{Stores};
 ghost use Rattle.places.specs.Order.{overBy, comesBy, betterOf, hearsAt};
@@ -58,9 +59,9 @@ pub fn is_primary(role: Role) -> bool
     }
 }
 
-// Hears, and has a timer.
-pub fn takes_part(role: Role) -> bool
-    ensures { λ r. ⌜ r ≡ takesPart role ⌝ }
+// In backup, prospect or primary: hears, and has a timer.
+pub fn is_active(role: Role) -> bool
+    ensures { λ r. ⌜ r ≡ isActive role ⌝ }
 {
     match role {
         Role::Down => false,
@@ -77,7 +78,7 @@ pub fn is_still(s: Server) -> bool
     ensures { λ r. ⌜ r ≡ isStill s ⌝ }
 {
     let role = s.role;
-    !takes_part(role) & !s.sent_any()
+    !is_active(role) & !s.sent_any()
 }
 
 // ---- servers as numbers

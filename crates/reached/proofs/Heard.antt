@@ -18,7 +18,7 @@ use Rattle.server.specs.declared.Server.{Server}
 use Rattle.server.specs.Server.{rankOf, inRole, setSilence, toProspect, sendReveal, after}
 use Rattle.server.specs.Hearing.{fromHigher, fromLower, forThis, backupHears, prospectHears, primaryHears, hearsIn, attending, heard, heardAll}
 use Rattle.server.proofs.Hearing.{heard-append}
-use Rattle.traces.specs.Trace.{isActive, isBeating}
+use Rattle.roles.specs.Roles.{isActive, isBeating}
 use Rattle.traces.proofs.Ways.{beating}
 use Rattle.group.proofs.Inbox.{Falls}
 

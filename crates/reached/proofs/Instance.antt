@@ -15,7 +15,8 @@ use Rattle.server.proofs.Sent.{reveal-any}
 use Rattle.periods.proofs.Limits.{silence-limit, prospect-limit}
 use Rattle.group.specs.declared.State.{State}
 use Rattle.group.specs.Hearing.{place, over}
-use Rattle.traces.specs.Trace.{Trace, isActive, activeAt0}
+use Rattle.roles.specs.Roles.{isActive}
+use Rattle.traces.specs.Trace.{Trace, activeAt0}
 use Rattle.traces.specs.Facts.{Order, Limits, Ages, FirstStep, QuietStep, Facts}
 use Rattle.traces.specs.Settling.{Settled}
 use Rattle.traces.proofs.Settle.{settles}

@@ -21,7 +21,7 @@ use Rattle.server.specs.Server.{rankOf, inRole, setSilence, setBeat, sendBeat, 
 use Rattle.server.specs.Hearing.{fromHigher, fromLower, forThis, backupHears, prospectHears, primaryHears, attending, heard, heardAll}
 use Rattle.server.specs.Timers.{aged, timed}
 use Rattle.group.proofs.Laws.{rank-one, rank-heard}
-use Rattle.traces.specs.Trace.{isActive, isBeating}
+use Rattle.roles.specs.Roles.{isActive, isBeating}
 use Rattle.traces.proofs.Ways as ways
 use Rattle.group.proofs.Inbox.{Falls}
 use Rattle.reached.proofs.Heard.{hear-as, stay-all, higher-no-call}

@@ -25,7 +25,7 @@ use Rattle.group.specs.Verbs.{placeOf, inTable, namesNobody, known, stateRefusa
 use Rattle.group.specs.Advance.{advancedBy}
 use Rattle.group.specs.Calls.{Call, verb, advance, advanceTo, outcomeOf, sliceOf, callNumber, callChannel, channelAfter}
 use Rattle.group.proofs.Laws.{taken, every-call-keeps-the-table}
-use Rattle.reached.specs.Links.{cutByVerb, cutByCall, cutAfter}
+use Rattle.group.specs.Links.{cutByVerb, cutByCall, cutAfter}
 use Rattle.reached.proofs.Sound.{Sound}
 use Rattle.reached.proofs.Reached.{set-cases, handed, sound-call}
 

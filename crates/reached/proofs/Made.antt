@@ -21,7 +21,7 @@ use Rattle.group.specs.declared.State.{State}
 use Rattle.group.specs.Table.{most, isEmpty, counted, isTable, freshRefusal, fresh}
 use Rattle.group.specs.Hearing.{place}
 use Rattle.group.proofs.Made.{every-at, rising-apart, New, Neat, is-neat, table-opened, fresh-has-its-table}
-use Rattle.traces.specs.Trace.{isActive}
+use Rattle.roles.specs.Roles.{isActive}
 use Rattle.traces.proofs.Ways as ways
 use Rattle.reached.proofs.Sound.{Sound, seatedIn}
 

@@ -17,7 +17,8 @@ use Rattle.group.specs.declared.State.{State}
 use Rattle.group.specs.Hearing.{place, inbox}
 use Rattle.server.specs.Hearing.{heardAll}
 use Rattle.group.specs.Frame.{advanced}
-use Rattle.traces.specs.Trace.{isActive, isBeating, HearsHigher, HearsLowReveal, HearsAny}
+use Rattle.roles.specs.Roles.{isActive, isBeating}
+use Rattle.traces.specs.Trace.{HearsHigher, HearsLowReveal, HearsAny}
 use Rattle.traces.specs.Facts.{SilentBackup, RevealingProspect, Waited, BeatsOn, QuietStep}
 use Rattle.traces.proofs.Ways as ways
 use Rattle.group.proofs.Inbox.{Falls}

@@ -33,7 +33,7 @@ use Rattle.group.specs.Verbs.{placeOf, happens, linksAfter, did}
 use Rattle.group.specs.Advance.{advancedBy}
 use Rattle.group.specs.Calls.{Call, verb, advance, advanceTo, outcomeOf, sliceOf, callChannel, channelAfter}
 use Rattle.group.proofs.Laws.{rank-after}
-use Rattle.traces.specs.Trace.{isActive, isBeating}
+use Rattle.roles.specs.Roles.{isActive, isBeating}
 use Rattle.traces.proofs.Ways as ways
 use Rattle.reached.proofs.Young.{Young, YoungIn}
 use Rattle.reached.proofs.Sound.{Sound, seatedIn, sound-advanced}

@@ -20,7 +20,7 @@ use Rattle.server.specs.Hearing.{heardAll}
 use Rattle.group.specs.Frame.{hearing, turned, advanced}
 use Rattle.group.specs.Laws.{SendersDiffer}
 use Rattle.group.proofs.Laws.{rank-heard, rank-ticked}
-use Rattle.traces.specs.Trace.{isActive, isBeating}
+use Rattle.roles.specs.Roles.{isActive, isBeating}
 use Rattle.group.proofs.Places.{place-advanced, long-advanced}
 use Rattle.group.proofs.Next.{Apart}
 use Rattle.group.proofs.Heard.{apart-heard}

@@ -15,7 +15,7 @@ use Rattle.server.specs.declared.Server.{Server}
 use Rattle.periods.specs.Period.{silenceLimit, prospectLimit, beatLimit}
 use Rattle.server.specs.Server.{inRole, setBeat, toProspect, sendBeat, sendReveal, after}
 use Rattle.server.specs.Timers.{aged, silentIn, beatingIn, risingIn, afterSilent, afterBeating, afterRising, timed}
-use Rattle.traces.specs.Trace.{isActive}
+use Rattle.roles.specs.Roles.{isActive}
 
 module _ (p : Period) (t : ℕ) where
   -- each timer, by the role

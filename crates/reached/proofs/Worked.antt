@@ -23,7 +23,7 @@ use Rattle.group.specs.Frame.{heardLines, timedLines, hearing, turned, turnLine
 use Rattle.group.specs.Verbs.{namesNobody, known, stateRefusal, verbRefusal, did}
 use Rattle.group.specs.Advance.{advancedBy, linesBy, timeRefusal}
 use Rattle.group.specs.Calls.{advanceTo, callNumber, callChannel, channelAfter}
-use Rattle.reached.specs.Links.{cutByCall, cutAfter}
+use Rattle.group.specs.Links.{cutByCall, cutAfter}
 use Rattle.reached.specs.Worked.{threeHighest, twoHighest, rolesOf, lent, lateReady, lowerBeats, slowest, passing, twoPrimaries, opened}
 
 -- what is said of the channel that a list ends with, as a test: the list ends in frame 12, and these are the roles then, in the next frame and in frame 26.

@@ -16,7 +16,7 @@ use Rattle.server.specs.declared.Server.{Server}
 use Rattle.periods.specs.Period.{silenceLimit, prospectLimit, beatLimit}
 use Rattle.server.specs.Server.{after}
 use Rattle.server.specs.Hearing.{fromHigher, fromLower, forThis, backupHears, prospectHears, primaryHears, hearsIn, attending, heard, heardAll}
-use Rattle.traces.specs.Trace.{isActive, isBeating}
+use Rattle.roles.specs.Roles.{isActive, isBeating}
 use Rattle.traces.proofs.Ways as ways
 
 -- the timers of a server in the role r in frame t are not set later, and have not passed their limits

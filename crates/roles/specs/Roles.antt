@@ -1,5 +1,5 @@
 -- The roles of a server.
-use mathlib.Core.Bool.{Bool}
+use mathlib.Core.Bool.{Bool, true, false}
 use Prim.Native.Nat.{ℕ}
 use lib.Dec.{eqb}
 use Rattle.roles.specs.declared.Role.{Role}
@@ -31,3 +31,21 @@ roleNumber Primary = 5
 
 abbrev pub inRoleOf : Role → Role → Bool
 inRoleOf a b = eqb (roleNumber a) (roleNumber b)
+
+-- "in backup, prospect or primary": the roles that hear and have timers
+unfoldable pub isActive : Role → Bool
+isActive Down = false
+isActive Idle = false
+isActive Sync = false
+isActive Backup = true
+isActive Prospect = true
+isActive Primary = true
+
+-- "prospect or primary": the roles that beat
+unfoldable pub isBeating : Role → Bool
+isBeating Down = false
+isBeating Idle = false
+isBeating Sync = false
+isBeating Backup = false
+isBeating Prospect = true
+isBeating Primary = true

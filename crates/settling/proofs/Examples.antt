@@ -17,7 +17,7 @@ use Rattle.group.specs.Table.{placeIn, standsBefore, enter, anew, isNew, follow
 use Rattle.group.specs.Frame.{advanced}
 use Rattle.group.specs.Calls.{Call, verb, advance, advanceTo, callNumber, callChannel, channelAfter}
 use Rattle.reached.proofs.Worked.{says, computed}
-use Rattle.settling.specs.Links.{cutByCall, cutAfter, NoLinkCut}
+use Rattle.group.specs.Links.{cutByCall, cutAfter, NoLinkCut}
 use Rattle.settling.specs.Examples.{threeHighest, twoHighest, rolesOf, lent, allReady, lateReady, lowerBeats, slowest, passing, twoPrimaries, opened, Example, Examples}
 
 -- ---- links that a list does not touch stay as they were

@@ -35,7 +35,7 @@ use Rattle.group.specs.Hearing.{place, inbox}
 use Rattle.group.specs.Verbs.{placeOf, happens}
 use Rattle.group.specs.Calls.{channelAfter}
 use Rattle.group.proofs.Laws.{rank-heard}
-use Rattle.traces.specs.Trace.{isActive, isBeating}
+use Rattle.roles.specs.Roles.{isActive, isBeating}
 use Rattle.traces.proofs.Ways as ways
 use Rattle.group.proofs.Inbox.{Falls}
 use Rattle.reached.proofs.Heard.{rest-all}

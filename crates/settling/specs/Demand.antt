@@ -16,8 +16,8 @@ use Rattle.group.specs.Hearing.{place, over}
 use Rattle.group.specs.Frame.{advanced}
 use Rattle.group.specs.Advance.{advancedBy}
 use Rattle.group.specs.Calls.{Call, verb, advance, advanceTo, callNumber, callChannel, channelAfter}
-use Rattle.traces.specs.Trace.{isActive, isBeating}
-use Rattle.settling.specs.Links.{NoLinkCut}
+use Rattle.roles.specs.Roles.{isActive, isBeating}
+use Rattle.group.specs.Links.{NoLinkCut}
 
 abbrev pub isVerb : Call → Bool
 isVerb (verb v a b d) = true

@@ -7,7 +7,7 @@ use Rattle.group.specs.Table.{tableOf, freshRefusal}
 use Rattle.group.specs.Frame.{advanced}
 use Rattle.group.specs.Calls.{Call, advanceTo, channelAfter}
 pub use Rattle.reached.specs.Worked.{ranked, threeHighest, twoHighest, rolesOf, lent, allReady, lateReady, lowerBeats, slowest, passing, twoPrimaries, opened}
-use Rattle.settling.specs.Links.{NoLinkCut}
+use Rattle.group.specs.Links.{NoLinkCut}
 
 -- what holds of the servers rs and the list ks, which ends in frame 12: the table is taken, no link is cut, and the roles when the list
 -- ends, in frame t + 1, and in frame t + 4 × P + 2 = 26

@@ -7,7 +7,7 @@ use Rattle.group.specs.declared.Table.{Table}
 use Rattle.group.specs.Table.{most, freshRefusal, fresh}
 use Rattle.group.specs.Hearing.{place, whole}
 use Rattle.group.specs.Calls.{Call, channelAfter}
-use Rattle.settling.specs.Links.{cutAfter}
+use Rattle.group.specs.Links.{cutAfter}
 
 -- after any list of calls on a fresh channel, the link from place i to place j is whole if and only if `cutAfter` does not say that it is cut
 abbrev pub LinksAreAsCut : Type 0

@@ -5,7 +5,8 @@ use mathlib.Core.Logic.{_⊎_, inl, inr}
 use Prim.Native.Nat.{ℕ, suc, _+_, _<_, _≤_}
 use native.Mathlib.Omega.{arith}
 use Rattle.lists.proofs.Cases.{on, less, clash, refuted}
-use Rattle.traces.specs.Trace.{Trace, isBeating, Active, Beats, HearsAny}
+use Rattle.roles.specs.Roles.{isBeating}
+use Rattle.traces.specs.Trace.{Trace, Active, Beats, HearsAny}
 use Rattle.traces.specs.Facts.{Facts, RevealingProspect, Waited}
 use Rattle.traces.specs.Settling.{NoneBeats}
 use Rattle.traces.proofs.Laws.{upto}

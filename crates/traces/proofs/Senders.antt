@@ -6,7 +6,8 @@ use Prim.Native.Nat.{ℕ, zero, suc, _+_, _<_, _≤_}
 use native.Mathlib.Omega.{arith}
 use Rattle.lists.proofs.Cases.{on, clash}
 use Rattle.roles.specs.declared.Role.the-variants.{Backup}
-use Rattle.traces.specs.Trace.{Trace, isActive, isBeating, Active, Beats, HearsLowReveal, HearsAny}
+use Rattle.roles.specs.Roles.{isActive, isBeating}
+use Rattle.traces.specs.Trace.{Trace, Active, Beats, HearsLowReveal, HearsAny}
 use Rattle.traces.specs.Facts.{Facts, BeatsOn}
 use Rattle.traces.proofs.Ways.{beating-active, prospect-beats, backup-active, backup-still, Went, went, rested, kept, yielded, answered, woke, heeded, waited}
 

@@ -6,7 +6,8 @@ use mathlib.Core.Bool.{true}
 use Prim.Native.Nat.{ℕ, zero, suc, _+_, _<_, _≤_}
 use native.Mathlib.Omega.{arith}
 use Rattle.lists.proofs.Cases.{on, equal, clash, refuted}
-use Rattle.traces.specs.Trace.{Trace, activeAt0, isBeating, Active, Beats}
+use Rattle.roles.specs.Roles.{isBeating}
+use Rattle.traces.specs.Trace.{Trace, activeAt0, Active, Beats}
 use Rattle.traces.specs.Facts.{Facts}
 use Rattle.traces.specs.Settling.{TopIfStill, Settled, Settling}
 use Rattle.traces.proofs.Laws.{holds?, found}

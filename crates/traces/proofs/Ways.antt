@@ -7,7 +7,8 @@ use native.Mathlib.Omega.{arith}
 use Rattle.lists.proofs.Cases.{tested, on, less, equal, clash}
 use Rattle.roles.specs.declared.Role.{Role}
 use Rattle.roles.specs.declared.Role.the-variants.{Down, Idle, Sync, Backup, Prospect, Primary}
-use Rattle.traces.specs.Trace.{isActive, isBeating, Trace, Active, Beats, HearsHigher, HearsLowReveal, HearsAny}
+use Rattle.roles.specs.Roles.{isActive, isBeating}
+use Rattle.traces.specs.Trace.{Trace, Active, Beats, HearsHigher, HearsLowReveal, HearsAny}
 use Rattle.traces.specs.Facts.{Facts, SilentBackup, RevealingProspect, Waited, BeatsOn}
 use Rattle.traces.proofs.Laws.{holds?, both?, found}
 

@@ -5,7 +5,8 @@ use mathlib.Core.Bool.{Bool, true, false}
 use Prim.Native.Nat.{ℕ, suc, _+_, _*_, _<_, _≤_}
 use Rattle.lists.specs.Lists.{countBelow}
 use Rattle.roles.specs.declared.Role.the-variants.{Backup, Prospect, Primary}
-use Rattle.traces.specs.Trace.{Trace, isActive, activeAt0, Active, Beats, HearsHigher, HearsLowReveal, HearsAny}
+use Rattle.roles.specs.Roles.{isActive}
+use Rattle.traces.specs.Trace.{Trace, activeAt0, Active, Beats, HearsHigher, HearsLowReveal, HearsAny}
 
 -- a strict order on the indices below n, total on those that are seated
 pub record Order (n : ℕ) (seated : ℕ → Bool) (higher : ℕ → ℕ → Bool) : Type 0 where

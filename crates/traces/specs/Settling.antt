@@ -4,7 +4,8 @@ use mathlib.Core.Logic.{_⊎_, _≢_}
 use mathlib.Core.Bool.{true, false}
 use Prim.Native.Nat.{ℕ, _+_, _<_, _≤_}
 use Rattle.roles.specs.declared.Role.the-variants.{Backup, Primary}
-use Rattle.traces.specs.Trace.{Trace, isBeating, Active}
+use Rattle.roles.specs.Roles.{isBeating}
+use Rattle.traces.specs.Trace.{Trace, Active}
 use Rattle.traces.specs.Facts.{Facts}
 
 -- in frame k, h is primary, all others that were active at 0 are backup, and no other server is primary

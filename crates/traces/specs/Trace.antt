@@ -1,28 +1,10 @@
 -- A trace: what a group of servers does from frame to frame, as functions of a frame number and of a server's index.
 use mathlib.Core.Path.{_≡_}
 use mathlib.Core.Logic.{_≢_}
-use mathlib.Core.Bool.{Bool, true, false}
+use mathlib.Core.Bool.{Bool, true}
 use Prim.Native.Nat.{ℕ, _<_}
 use Rattle.roles.specs.declared.Role.{Role}
-use Rattle.roles.specs.declared.Role.the-variants.{Down, Idle, Sync, Backup, Prospect, Primary}
-
--- a server that takes part
-unfoldable pub isActive : Role → Bool
-isActive Down = false
-isActive Idle = false
-isActive Sync = false
-isActive Backup = true
-isActive Prospect = true
-isActive Primary = true
-
--- a server that sends heartbeats by itself
-unfoldable pub isBeating : Role → Bool
-isBeating Down = false
-isBeating Idle = false
-isBeating Sync = false
-isBeating Backup = false
-isBeating Prospect = true
-isBeating Primary = true
+use Rattle.roles.specs.Roles.{isActive, isBeating}
 
 -- The servers are the indices below `size`; `higher i j` says that i is higher than j. `role k i` and the ages are
 -- those at the end of frame k, `sends k i` says that i sent anything in it, and `reveals k i` that it sent a reveal.

@@ -1,13 +1,15 @@
--- Which links are cut: "A link is cut if the last accepted `cut` or `mend` of it was a `cut`, and whole if there was none."
+-- Which links are cut: "A link is cut if the last accepted `cut` or `mend` of it was a `cut`, and
+-- whole if there was none."
 use mathlib.Core.Bool.{Bool, true, false, _&&_}
 use mathlib.Core.List.{List, [], _∷_}
+use mathlib.Core.Path.{_≡_}
 use Prim.Native.Nat.{ℕ}
 use lib.Dec.{eqb}
 use Rattle.lists.specs.Choice.{choose}
 use Rattle.roles.specs.declared.Verb.{Verb}
 use Rattle.roles.specs.declared.Verb.the-variants.{Start, Ready, Unready, Pass, Crash, Restart, Cut, Mend}
 use Rattle.group.specs.declared.State.{State}
 use Rattle.group.specs.Calls.{Call, verb, advance, advanceTo, callNumber, callChannel}
 
 -- whether a link is cut after an accepted verb of it; `was` says whether it was before
 abbrev pub cutByVerb : Verb → Bool → Bool
@@ -30,3 +32,7 @@ cutByCall a b (advanceTo t d) was = was
 unfoldable pub cutAfter : ℕ → ℕ → State → List Call → Bool → Bool
 cutAfter a b c [] was = was
 cutAfter a b c (k ∷ ks) was = cutAfter a b (callChannel c k) ks (choose (eqb (callNumber c k) 0) (cutByCall a b k was) was)
+
+-- (demand 3) "after the list no link is cut": after the calls ks on the channel c, in which none was
+abbrev pub NoLinkCut : State → List Call → Type 0
+NoLinkCut c ks = (a b : ℕ) → cutAfter a b c ks false ≡ false
