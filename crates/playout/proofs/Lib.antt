@@ -4,3 +4,4 @@ pub mod Fronts
 pub mod Writings
 pub mod Channels
 pub mod Staying
+pub mod Chains

@@ -44,7 +44,7 @@ period-in n = by-choice (λ (q : Period). isPeriod (q .frames) ≡ true) (isPeri
 front-in : (f : Front) → isPeriod (f .period .frames) ≡ true → isFront (plainFront f) ≡ true
 front-in f e = laws .back .front f e .decodes
 
-channel-in : (c : State) → isPeriod (c .period .frames) ≡ true → isChannel (plainChannel c) ≡ true
+pub channel-in : (c : State) → isPeriod (c .period .frames) ≡ true → isChannel (plainChannel c) ≡ true
 channel-in c e = laws .back .channel c e .decodes
 
 -- ---- a channel keeps its period
@@ -54,14 +54,14 @@ unfolding advancedBy advanced
 period-advanced zero c = refl
 period-advanced (suc n) c = period-advanced n (advanced c)
 
-step-in : (p : PlainChannel) → isPeriod (advanced (channelOf p) .period .frames) ≡ true
+pub step-in : (p : PlainChannel) → isPeriod (advanced (channelOf p) .period .frames) ≡ true
 unfolding advanced
 step-in p = period-in (p .period)
 
-time-in : (p : PlainChannel) (n : ℕ) → isPeriod (advancedBy n (channelOf p) .period .frames) ≡ true
+pub time-in : (p : PlainChannel) (n : ℕ) → isPeriod (advancedBy n (channelOf p) .period .frames) ≡ true
 time-in p n = ap (λ (q : Period). isPeriod (q .frames)) (period-advanced n (channelOf p)) ∙ period-in (p .period)
 
-verb-in : (p : PlainChannel) (v a b : ℕ) → isPeriod (did (channelOf p) (verbOf v) a b .period .frames) ≡ true
+pub verb-in : (p : PlainChannel) (v a b : ℕ) → isPeriod (did (channelOf p) (verbOf v) a b .period .frames) ≡ true
 unfolding did
 verb-in p v a b = period-in (p .period)
 
@@ -75,7 +75,7 @@ made-in i q n e =
       | inr t ↦ absurd (omega (arith, sym (ap (λ (r : FrontMade). r .number) (other _ t)) ∙ e))
     ]
 
-opened-in : (p : PlainTable) (n : ℕ) → freshNumber p n ≡ 0 → isPeriod n ≡ true
+pub opened-in : (p : PlainTable) (n : ℕ) → freshNumber p n ≡ 0 → isPeriod n ≡ true
 unfolding freshNumber freshRefusal takePeriod
 opened-in p n e =
     elim (tested (isPeriod n)) [

@@ -21,6 +21,7 @@ use Rattle.playout.specs.declared.ChannelOpened.{ChannelOpened}
 use Rattle.playout.specs.declared.ChannelAnswered.{ChannelAnswered}
 use Rattle.playout.specs.Front.{frontMade, Begins, Hears, Ticks, Acts}
 use Rattle.playout.specs.Channel.{Adds, Opens, Answers}
+use Rattle.playout.specs.Chains.{PlainCallsSettle}
 
 -- what is made decodes, and what decodes does so after every step of a front and every call, also one that is refused
 pub record StaysPlain : Type 0 where
@@ -46,3 +47,5 @@ pub record Empties (r : PlainTable) : Type 0 where
   pub table : r ≡ plainTable empty
   pub laws : Laws
   pub stays : StaysPlain
+  -- demand 3, of a channel that is held as plain integers
+  pub settles : PlainCallsSettle
