@@ -33,7 +33,7 @@ module _ (t : Table) (n : ℕ) (ks d e : List ℕ) where
   listed = callsOf (length d) ks
 
   -- what the list as a whole gets: 2, 6 or 7 where no channel is opened, 9 where e has fewer places than there are calls. Then no call is made,
-  -- and what is handed back is left free (`noChannel`)
+  -- and `noChannel` is handed back, on which document 01 is silent
   unfoldable pub listRefusal : ℕ
   listRefusal = choose (eqb (freshRefusal t n) 0) (choose (leb (length listed) (length e)) 0 9) (freshRefusal t n)
 

@@ -21,7 +21,7 @@ use Rattle.channel.specs.declared.Within.{Within}
 abbrev pub state : Channel → State
 state c = c .state
 
--- the fresh channel of the table t with the period n, or `noChannel`, which document 01 leaves free, where it is refused
+-- the fresh channel of the table t with the period n, or `noChannel` where it is refused, on which document 01 is silent
 pub record Opens (t : Table) (n : ℕ) (r : Opened) : Type 0 where
   pub number : ofVerdict (r .verdict) ≡ freshRefusal t n
   pub channel : state (r .channel) ≡ choose (eqb (freshRefusal t n) 0) (fresh t n) noChannel

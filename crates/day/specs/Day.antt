@@ -59,7 +59,9 @@ serverEffect atClose c i p = stop 4
 abbrev pub refusal : State → ℕ → ℕ → List ℕ
 refusal c i n = line (c .frame) i (refusedWord n)
 
--- the entry's own call, on the channel that has come to its time: "12 to 15 after it"
+-- the entry's own call, on the channel that has come to its time: "12 to 15 after it". "In a day the
+-- refused call is the entry's own: before 12 to 15 the advance to its time is a call by itself and
+-- stands, and the sheet line of a refusal is written by a call after it."
 unfoldable pub callEffect : List ℕ → State → Verb → ℕ → ℕ → Effect
 callEffect w c v a b =
     let o = verbOutcome c v a b in

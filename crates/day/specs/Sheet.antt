@@ -27,5 +27,6 @@ unfoldable pub sheetFrom : ℕ → Day → List (List ℕ) → List ℕ
 sheetFrom k d [] = finish k (d .stage)
 sheetFrom k d (l ∷ ls) = elim (effectOf k d (lineRead l)) [ stop n ↦ inputRefusal k n | go w e ↦ w ++ sheetFrom (suc k) e ls ]
 
+-- every day begins anew: "A day ends there; nothing carries over."
 unfoldable pub sheet : List ℕ → List ℕ
 sheet s = header ++ sheetFrom 1 begin (linesIn s)

@@ -10,7 +10,7 @@ use Rattle.group.specs.declared.State.{State}
 use Rattle.group.specs.Outcome.{Outcome}
 use Rattle.group.specs.Frame.{advanced, frameLines}
 
--- by one frame: "16. Advance at frame 2,159,999." Frames after it, which no call can reach, get 16 too: left free
+-- by one frame: "16. Advance at frame 2,159,999." Frames after it, which no call can reach, get 16 too: document 01 is silent on them
 abbrev pub stepOutcome : State → Outcome
 stepOutcome c = record { number = choose (inDay (c .frame + 1)) 0 16; lines = frameLines c; channel = advanced c }
 
@@ -23,8 +23,8 @@ unfoldable pub linesBy : ℕ → State → List ℕ
 linesBy zero c = []
 linesBy (suc n) c = frameLines c ++ linesBy n (advanced c)
 
--- all frames up to the frame t; none where it is not after the present one. It knows no end of the day: the calls test that before it, and frames after it are
--- left free
+-- all frames up to the frame t; none where it is not after the present one. It knows no end of the day: the calls test that before it, and document 01 is
+-- silent on frames after it
 abbrev pub timeGoes : State → ℕ → Outcome
 timeGoes c t = record { number = 0; lines = linesBy (t - c .frame) c; channel = advancedBy (t - c .frame) c }
 

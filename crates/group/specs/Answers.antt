@@ -27,7 +27,7 @@ pub record Takes (l : List Server) (r : Added) : Type 0 where
   pub number : ofVerdict (r .verdict) ≡ choose (isTable l) 0 2
   pub table : r .table ≡ tableWith l
 
--- the state that is handed back where no channel is opened: one with no server. Document 01 leaves it free
+-- the state that is handed back where no channel is opened: one with no server. Document 01 is silent on it
 abbrev pub noChannel : State
 noChannel = fresh empty leastPeriod
 

@@ -23,7 +23,9 @@ linkOf i j = most * i + j
 abbrev pub whole : State → ℕ → ℕ → Bool
 whole c i j = getD (c .whole) (linkOf i j) false
 
--- "heard in frame t + 1 by every other server whose link from the sender is whole at the end of frame t": place j hears place i
+-- "heard in frame t + 1 by every other server whose link from the sender is whole at the end of
+-- frame t": place j hears place i. No role is looked at: "what it sent counts even if it is in
+-- backup at the frame's end"
 unfoldable pub hearsFrom : State → ℕ → ℕ → Bool
 hearsFrom c j i = not (eqb i j) && (sentAny (place c i) && whole c i j)
 
@@ -44,7 +46,7 @@ comes c j last best i =
     hearsFrom c j i && (choose (isPlace last) (over c last i) true && choose (isPlace best) (over c i best) true)
 
 -- "A server hears senders from highest to lowest": of the first n places, the highest that place j hears and that is lower than the last. Of two
--- places that sent and have one rank only the first is heard; no two servers of a table have one rank, so this is left free
+-- places that sent and have one rank only the first is heard; no two servers of a table have one rank, so document 01 is silent on it
 unfoldable pub nextAmong : State → ℕ → ℕ → ℕ → ℕ
 nextAmong c j last zero = noPlace
 nextAmong c j last (suc n) = let best = nextAmong c j last n in choose (comes c j last best n) n best

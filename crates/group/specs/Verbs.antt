@@ -31,7 +31,8 @@ inTable c i = isIn (c .servers) i
 unfoldable pub namesNobody : Verb → ℕ → ℕ → Bool
 namesNobody v a b = eqb a 0 || (paired v && eqb b 0)
 
--- not "8. Identity not in the table, or both identities the same."
+-- not "8. Identity not in the table, or both identities the same." Of a second server no more is
+-- asked: of a pass, "b may be down"
 unfoldable pub known : State → Verb → ℕ → ℕ → Bool
 known c v a b = inTable c a && choose (paired v) (inTable c b && not (eqb a b)) true
 
@@ -39,7 +40,8 @@ known c v a b = inTable c a && choose (paired v) (inTable c b && not (eqb a b)) 
 abbrev pub linkWhole : State → ℕ → ℕ → Bool
 linkWhole c a b = whole c (placeOf c a) (placeOf c b)
 
--- of identities that get neither 2 nor 8: 12, 13 or 14 by the acting server's role (`enters`); "15. `cut` of a cut link, `mend` of a whole one."
+-- of identities that get neither 2 nor 8: 12 ("the acting server only"), 13 or 14 by the acting
+-- server's role (`enters`); "15. `cut` of a cut link, `mend` of a whole one."
 unfoldable pub stateRefusal : State → Verb → ℕ → ℕ → ℕ
 stateRefusal c Start a b = verbAnswer Start b (place c (placeOf c a)) .number
 stateRefusal c Ready a b = verbAnswer Ready b (place c (placeOf c a)) .number
@@ -50,7 +52,8 @@ stateRefusal c Restart a b = verbAnswer Restart b (place c (placeOf c a)) .numbe
 stateRefusal c Cut a b = choose (linkWhole c a b) 0 15
 stateRefusal c Mend a b = choose (linkWhole c a b) 15 0
 
--- what a verb gets: 2, else 8, else what the state says
+-- what a verb gets: 2, else 8, else what the state says. "Each is returned under its stated
+-- condition only. .. otherwise the lowest number wins."
 unfoldable pub verbRefusal : State → Verb → ℕ → ℕ → ℕ
 verbRefusal c v a b = choose (namesNobody v a b) 2 (choose (known c v a b) (stateRefusal c v a b) 8)
 
@@ -80,7 +83,8 @@ verbSaid Restart e = said e
 verbSaid Cut e = says.One word.Cut
 verbSaid Mend e = says.One word.Mended
 
--- the channel after an allowed verb
+-- the channel after an allowed verb, in the frame that c is in: "Entries of a frame come after its
+-- hearing and timers, in their order."
 unfoldable pub did : State → Verb → ℕ → ℕ → State
 did c v a b =
     record {

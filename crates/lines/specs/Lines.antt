@@ -33,7 +33,7 @@ linesOf t i (says.Two v w) = line t i (wordBytes v) ++ line t i (wordBytes w)
 abbrev pub refusedWord : ℕ → List ℕ
 refusedWord n = bytes "refused-" ++ digits n
 
--- "the sheet line of a refusal": of a call of server i in frame t. Document 01 has it for refusals of calls; for those of input, it is left free
+-- "the sheet line of a refusal": of a call of server i in frame t. Document 01 has it for refusals of calls; on those of input it is silent
 abbrev pub refusedLine : ℕ → ℕ → Refusal → List ℕ
 refusedLine t i r = line t i (refusedWord (numberOf r))
 

@@ -31,8 +31,8 @@ bitOf n = eqb n 1
 abbrev pub plainBit : Bool → ℕ
 plainBit t = choose t 1 0
 
--- What decodes is a value of the engine, not always one that calls reach: a server of identity 0, a frame beyond the day. Document 01 leaves
--- such values free; they get the answers of the same definitions
+-- What decodes is a value of the engine, not always one that calls reach: a server of identity 0, a frame beyond the day. Document 01 is
+-- silent on such values; they get the answers of the same definitions
 
 -- ---- a server
 

@@ -15,7 +15,8 @@ use Rattle.server.specs.declared.Server.{Server}
 use Rattle.server.specs.declared.Heard.{Heard}
 use Rattle.server.specs.Server.{rankOf, setSilence, after}
 
--- "higher sender", "lower sender": of the hearer s
+-- "higher sender", "lower sender": of the hearer s. A heartbeat of TieBreaker 0 is heard like any
+-- other: no line has it, and the library for C gives it 2
 abbrev pub fromHigher : Server → Heartbeat → Bool
 fromHigher s h = higher (sender h) (rankOf s)
 

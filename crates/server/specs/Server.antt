@@ -38,7 +38,8 @@ abbrev pub inRole : Role → Server → Server
 inRole r s =
     record { identity = s .identity; priority = s .priority; role = r; silence = s .silence; beat = s .beat; prospect = s .prospect; beats = s .beats; reveal = s .reveal; pass = s .pass }
 
--- "A timer set in frame s has age t − s in frame t": each timer is kept as the frame that it was set in
+-- "A timer set in frame s has age t − s in frame t": each timer is kept as the frame that it was set
+-- in. A timer that the role does not have keeps the frame it was last set in, and is not looked at
 abbrev pub setSilence : ℕ → Server → Server
 setSilence t s =
     record { identity = s .identity; priority = s .priority; role = s .role; silence = t; beat = s .beat; prospect = s .prospect; beats = s .beats; reveal = s .reveal; pass = s .pass }
@@ -90,8 +91,8 @@ revealOf s = record { bs = 0; priority = s .priority; tiebreaker = s .identity; 
 abbrev pub passOf : Server → Heartbeat
 passOf s = record { bs = s .pass; priority = s .priority; tiebreaker = s .identity; reveal = 0 }
 
--- "one sender's heartbeats in the order sent": its plain beats, its reveal, its pass. A server of a channel that calls reach sends in no other
--- order and no more (`SentInOrder` of the crate settling). Of one that hears heartbeats in an order that no channel gives them, what it sent is left free
+-- "One server may send several in a frame"; "one sender's heartbeats in the order sent": its plain beats, its reveal, its pass. A server of a channel that calls reach sends in no other
+-- order and no more (`SentInOrder` of the crate settling). On one that hears heartbeats in an order that no channel gives them, document 01 is silent
 unfoldable pub sentBy : Server → List Heartbeat
 sentBy s = replicate (s .beats) (plainOf s) ++ (choose (s .reveal) (revealOf s ∷ []) [] ++ choose (eqb (s .pass) 0) [] (passOf s ∷ []))
 
@@ -101,6 +102,7 @@ sentAny s = choose (eqb (s .beats) 0) (choose (s .reveal) true (not (eqb (s .pas
 
 -- ---- the server after an event of frame t
 
+-- What it sent stays: "Heartbeats sent before a crash are still heard."
 unfoldable pub after : ℕ → Server → Event → Server
 after t s Nothing = s
 after t s ToBackup = setSilence t (inRole Backup s)

@@ -14,8 +14,8 @@ use Rattle.server.specs.declared.Server.{Server}
 use Rattle.server.specs.declared.Acted.{Acted}
 use Rattle.server.specs.Server.{after}
 
--- What a verb gets from one server: 2 for an identity 0, the second or the server's own (an empty place, which document 01 leaves
--- free); 8 for "both identities the same"; then what its role allows. One server knows neither the table (8 for an identity not in it) nor the links
+-- What a verb gets from one server: 2 for an identity 0, the second or the server's own (an empty place, on which document 01
+-- is silent); 8 for "both identities the same"; then what its role allows. One server knows neither the table (8 for an identity not in it) nor the links
 -- (15): the channel has those.
 unfoldable pub verbAnswer : Verb → ℕ → Server → Answer
 verbAnswer v b s =

@@ -21,7 +21,7 @@ abbrev pub roomFor : ℕ → ℕ → ℕ → Bool
 roomFor l at n = leb (at + n) l
 
 -- "9. The lent output slice is shorter than what the call would otherwise write." A writer takes a place in the slice, so what counts is the
--- slice from that place on. A place beyond the slice's end gets 9 even if nothing is to be written: document 01 has no places, and leaves this free
+-- slice from that place on. A place beyond the slice's end gets 9 even if nothing is to be written: document 01 has no places, and is silent on it
 unfoldable pub writing : List ℕ → ℕ → List ℕ → Answer
 writing d at w = choose (fits d at w) (accepted ((at + length w) ∷ [])) (refused 9)
 
