@@ -22,7 +22,7 @@
  * - what is lent to one call does not overlap;
  * - there is stack enough: 512 KiB for playout_sheet, 32 KiB for any other call.
  * Everything else is checked: no integer in a struct or an argument makes a call go wrong. But what
- * decodes is taken for what it says, also a front, table or channel that no call made.
+ * decodes is taken for what it says, also a front or channel that no call made.
  */
 #ifndef PLAYOUT_H
 #define PLAYOUT_H
