@@ -9,6 +9,7 @@ use places::Packed;
 use refusal::Refusal;
 use refusal::Verdict;
 use roles::Verb;
+use server::Server;
 use text::Line;
 use text::Written;
 ghost use mathlib.Core.Path.{_≡_};
@@ -70,7 +71,9 @@ impl Feed {
     pub const LINES: u32 = 65535;
 
     // So many bytes are enough for every step of a feed that began, took and stepped: no frame prints more.
-    pub const STEP: usize = 237600;
+    pub const STEP: usize = Table::SERVERS
+        * (2 * lines::LONGEST * (Table::SERVERS * (Server::BEATS as usize + 2))
+            + 6 * lines::LONGEST);
 
     // The header, and the day before its first line; 9.
     pub fn begin(out: &mut [u8]) -> Step

@@ -1,10 +1,11 @@
 -- How much a step prints at the most.
 use mathlib.Core.Path.{_≡_}
 use mathlib.Core.List.{List}
-use Prim.Native.Nat.{ℕ, suc, _≤_, _<_}
+use Prim.Native.Nat.{ℕ, suc, _+_, _*_, _≤_, _<_}
 use lib.ListN.{length}
 use Rattle.server.specs.declared.Server.{Server}
 use Rattle.server.specs.Server.{mostBeats}
+use Rattle.lines.specs.Lines.{longest}
 use Rattle.group.specs.Table.{most}
 use Rattle.group.specs.declared.State.{State}
 use Rattle.group.specs.Hearing.{place}
@@ -14,7 +15,7 @@ use Rattle.feeding.specs.Moves.{stepMove, stepsMove, lastMove}
 
 -- no frame of a small channel (below) prints more bytes: each of 16 servers hears each of the 16 at most 17 times, and has three timers, each with two lines of 27 bytes at the most
 abbrev pub stepBytes : ℕ
-stepBytes = 237600
+stepBytes = most * (2 * longest * (most * (mostBeats + 2)) + 6 * longest)
 
 -- identities are below 65,536, and no more beats were sent in a frame than are counted
 pub record Small (s : Server) : Type 0 where

@@ -20,7 +20,8 @@ use Rattle.server.specs.Server.{absent, cleared, plainOf, revealOf, passOf, sen
 use Rattle.server.specs.Hearing.{heard}
 use Rattle.roles.specs.Words.{wordBytes, said}
 use Rattle.server.specs.Timers.{timed}
-use Rattle.lines.specs.Lines.{line, linesOf}
+use Rattle.lines.specs.Lines.{longest, line, linesOf}
+use Rattle.places.specs.Words.{beatsUnit}
 use Rattle.lines.proofs.Pieces.{line-long, word-short}
 use Rattle.group.specs.declared.State.{State}
 use Rattle.group.specs.Table.{most}
@@ -32,16 +33,16 @@ use Rattle.frame.proofs.Hearings.{one-identity}
 
 -- ---- lines
 
-pub line-most : (t i : ℕ) (w : Word) → i < 65536 → length (line t i (wordBytes w)) ≤ 27
+pub line-most : (t i : ℕ) (w : Word) → i < 65536 → length (line t i (wordBytes w)) ≤ longest
 line-most t i w h = omega (arith, line-long t i (wordBytes w), digits-few 4 i (omega arith), word-short w)
 
-pub said-most : (t i : ℕ) (s : Said) → i < 65536 → length (linesOf t i s) ≤ 54
+pub said-most : (t i : ℕ) (s : Said) → i < 65536 → length (linesOf t i s) ≤ 2 * longest
 unfolding linesOf
 said-most t i says.Nothing h = omega arith
 said-most t i (says.One w) h = omega (arith, line-most t i w h)
 said-most t i (says.Two v w) h = omega (arith, line-most t i v h, line-most t i w h, length-append (line t i (wordBytes v)) (line t i (wordBytes w)))
 
-heard-most : (t : ℕ) (s : Server) (hs : List Heartbeat) → s .identity < 65536 → length (heardLines t s hs) ≤ 54 * length hs
+heard-most : (t : ℕ) (s : Server) (hs : List Heartbeat) → s .identity < 65536 → length (heardLines t s hs) ≤ 2 * longest * length hs
 unfolding heardLines
 heard-most t s [] h = omega arith
 heard-most t s (x ∷ hs) h =
@@ -49,7 +50,7 @@ heard-most t s (x ∷ hs) h =
     let rest = heard-most t (heard t s x .server) hs (omega arith) in
     omega (arith, rest, said-most t (s .identity) (said (heard t s x .event)) h, length-append (linesOf t (s .identity) (said (heard t s x .event))) (heardLines t (heard t s x .server) hs))
 
-timed-most : (t i : ℕ) (m : Timed) → i < 65536 → length (timedLines t i m) ≤ 162
+timed-most : (t i : ℕ) (m : Timed) → i < 65536 → length (timedLines t i m) ≤ 6 * longest
 unfolding timedLines
 timed-most t i m h =
     let a = linesOf t i (said (m .silent)) in
@@ -101,7 +102,7 @@ module _ (c : State) (r : ℕ) (v : Loud (c .servers) r) where
     unfolding inbox
     inbox-most = after-most 16 16
 
-    turn-most : (t : ℕ) (s : Server) → s .identity < 65536 → length (turnLines c t j s) ≤ 54 * (16 * (r / 131072 + 2)) + 162
+    turn-most : (t : ℕ) (s : Server) → s .identity < 65536 → length (turnLines c t j s) ≤ 2 * longest * (16 * (r / beatsUnit + 2)) + 6 * longest
     unfolding turnLines
     turn-most t s h =
         let a = heardLines t (cleared s) (inbox c j) in
@@ -110,14 +111,14 @@ module _ (c : State) (r : ℕ) (v : Loud (c .servers) r) where
 
   turns-most :
       (t k : ℕ) (l : List Server) → ((i : ℕ) → i < length l → getD l i absent .identity < 65536) →
-      length (turnsLines c t k l) ≤ length l * (54 * (16 * (r / 131072 + 2)) + 162)
+      length (turnsLines c t k l) ≤ length l * (2 * longest * (16 * (r / beatsUnit + 2)) + 6 * longest)
   unfolding turnsLines
   turns-most t k [] f = omega arith
   turns-most t k (s ∷ l) f =
-      let most = 54 * (16 * (r / 131072 + 2)) + 162 in
+      let most = 2 * longest * (16 * (r / beatsUnit + 2)) + 6 * longest in
       let grows : suc (length l) * most ≡ length l * most + most = suc-mul (length l) most in
       omega (arith, grows, length-append (turnLines c t k s) (turnsLines c t (suc k) l), turn-most k t s (f 0 (omega arith)), turns-most t (suc k) l (λ i g. f (suc i) (omega arith)))
 
   pub frame-most : length (c .servers) ≡ 16 → ((i : ℕ) → i < 16 → place c i .identity < 65536) → length (frameLines c) ≤ mostBytes r
   unfolding frameLines
-  frame-most long f = omega (arith, turns-most (c .frame + 1) 0 (c .servers) (λ i g. f i (omega arith)), ap (λ (n : ℕ). n * (54 * (16 * (r / 131072 + 2)) + 162)) long)
+  frame-most long f = omega (arith, turns-most (c .frame + 1) 0 (c .servers) (λ i g. f i (omega arith)), ap (λ (n : ℕ). n * (2 * longest * (16 * (r / beatsUnit + 2)) + 6 * longest)) long)

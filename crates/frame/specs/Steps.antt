@@ -16,14 +16,14 @@ use Rattle.server.specs.declared.Server.{Server}
 use Rattle.server.specs.declared.Timed.{Timed}
 use Rattle.server.specs.Server.{absent, setSilence, cleared, sentBy, sentAny}
 use Rattle.server.specs.Timers.{aged, timed}
-use Rattle.lines.specs.Lines.{placeAfter}
+use Rattle.lines.specs.Lines.{longest, placeAfter}
 use Rattle.group.specs.declared.State.{State}
 use Rattle.group.specs.Table.{most}
 use Rattle.group.specs.Hearing.{isPlace}
 use Rattle.server.specs.Hearing.{heardAll}
 use Rattle.group.specs.Frame.{heardLines, timedLines, advanced, frameLines}
 use Rattle.frame.specs.declared.Told.{Told}
-use Rattle.places.specs.Words.{rankNumber, sendingNumber}
+use Rattle.places.specs.Words.{beatsUnit, rankNumber, sendingNumber}
 use Rattle.places.specs.Roles.{isBackup, isProspect, isStill}
 use Rattle.places.specs.Order.{comesBy, heardBy}
 
@@ -252,7 +252,7 @@ pub record AllRest (t : ℕ) (p : Period) (l : List Server) (r : ℕ) : Type 0 w
 
 -- no frame writes more bytes where no number of what was sent is greater
 abbrev pub mostBytes : ℕ → ℕ
-mostBytes loud = 16 * (54 * (16 * (loud / 131072 + 2)) + 162)
+mostBytes loud = most * (2 * longest * (most * (loud / beatsUnit + 2)) + 6 * longest)
 
 -- a place in a slice of so many bytes, or one past its end
 unfoldable pub clamped : ℕ → ℕ → ℕ

@@ -867,12 +867,13 @@ fn play_frame(
 
 // ---- as many frames as fit
 
-// No frame writes more bytes: 27 to a line, two lines for each heartbeat heard and each timer, 16 senders of so many heartbeats, 16 servers.
+// No frame writes more bytes: two lines for each heartbeat heard and for each of three timers, 16
+// senders of so many plain beats, a reveal and a pass, 16 servers.
 fn most_bytes(loud: u32) -> usize
     ensures { λ r. ⌜ r ≡ mostBytes loud ⌝ }
 {
     let beats = (loud / places::BEATS) as usize;
-    Table::SERVERS * (54 * (Table::SERVERS * (beats + 2)) + 162)
+    Table::SERVERS * (2 * lines::LONGEST * (Table::SERVERS * (beats + 2)) + 6 * lines::LONGEST)
 }
 
 // The place after the next frame's lines, which are not written.

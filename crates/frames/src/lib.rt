@@ -342,7 +342,7 @@ fn beat_on(
 {
     let mut next = first;
     let mut r = at;
-    while (next < (target as u64)) & (out.len() - r >= 27) {
+    while (next < (target as u64)) & (out.len() - r >= lines::LONGEST) {
         r = lines::say(out, true, r, next as u32, identity, Said::One(Word::Beat));
         next += period.beat_limit() as u64;
     }

@@ -29,6 +29,11 @@ linesOf t i says.Nothing = []
 linesOf t i (says.One w) = line t i (wordBytes w)
 linesOf t i (says.Two v w) = line t i (wordBytes v) ++ line t i (wordBytes w)
 
+-- no line of an event has more bytes: timecode, tab, five digits, tab, `prospect`, line feed. The
+-- proof is `line-most` of the crate frame
+abbrev pub longest : ℕ
+longest = 27
+
 -- "`refused-` and the number"
 abbrev pub refusedWord : ℕ → List ℕ
 refusedWord n = bytes "refused-" ++ digits n

@@ -16,6 +16,9 @@ ghost use Rattle.text.specs.Steps.{Pieces};
 ghost use Rattle.roles.specs.Words.{wordBytes};
 ghost use Rattle.lines.specs.Lines.{lineEnd, line, linesOf, refusedWord, refusedLine, Says};
 
+// No line of an event has more bytes.
+pub const LONGEST: usize = 27;
+
 fn word_length(word: Word) -> usize
     ensures { λ r. ⌜ r ≡ length (wordBytes word) ⌝ }
 {
