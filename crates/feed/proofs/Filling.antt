@@ -2,7 +2,7 @@
 use mathlib.Core.Bool.{Bool}
 use mathlib.Core.Path.{_≡_, refl, sym, ap, ap₂, subst, _∙_}
 use mathlib.Core.List.{List, [], _∷_, _++_}
-use Prim.Native.Nat.{ℕ, suc, _+_, _<_}
+use Prim.Native.Nat.{ℕ, _+_, _<_}
 use native.Mathlib.Omega.{arith}
 use native.Mathlib.Numerals.{add-one}
 use borrow.Author.Tests.{eq-eqb}
@@ -11,9 +11,9 @@ use lib.Seq.{take-suc, length-take-le}
 use Rattle.lists.specs.Splice.{splice}
 use Rattle.lists.proofs.Cases.{less, on, chosen}
 use Rattle.lists.proofs.Splicing.{splice-none, splice-more}
-use Rattle.feeding.specs.Fed.{Fed, enough, taken, takenBytes}
+use Rattle.feeding.specs.Fed.{Fed, enough, taken}
 use Rattle.feed.specs.declared.Feed.{Feed}
-use Rattle.feed.specs.Answers.{fedOf, lineTaken, Takes, Leaves, TakesIn}
+use Rattle.feed.specs.Answers.{fedOf, Takes, Leaves, TakesIn}
 use Rattle.feed.proofs.Leaving.{leaves-by}
 
 -- i bytes of s written into the line l₀ from the place n₀ on

@@ -14,7 +14,7 @@ use Rattle.refusal.specs.declared.Refusal.{Refusal}
 use Rattle.text.specs.declared.Written.the-variants.{To, Refused}
 use Rattle.periods.specs.declared.Period.{Period}
 use Rattle.group.specs.declared.State.{State}
-use Rattle.places.specs.Words.{serversOf, wordsOf, Canonical}
+use Rattle.places.specs.Words.{wordsOf, Canonical}
 use Rattle.feeding.specs.Fed.{Fed}
 use Rattle.feed.specs.declared.Stage.{Stage}
 use Rattle.feed.specs.declared.Stage.the-variants.{AtPeriod, AtServers, AtEntries, AtClose}

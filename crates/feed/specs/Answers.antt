@@ -37,14 +37,11 @@ dayOf AtClose c = on atClose c
 abbrev pub channelOf : Feed → List ℕ → List Bool → State
 channelOf f w k = stateOf (f .frame) (f .period) (serversOf w) k
 
--- what a feed stands for, with the bytes l of the line and the channel c
-abbrev pub fedIn : Feed → List ℕ → State → Fed
-fedIn f l c = record { over = f .over; number = f .number; line = take (f .length) l; day = dayOf (f .stage) c }
-
--- and with all that is lent to it. It forgets the bytes behind those that have come, numbers and links
--- before the period has come, and which numbers stand for the same servers: `Leaves` decides these too
+-- what a feed stands for with all that is lent to it, l being the bytes of the line. It forgets the
+-- bytes behind those that have come, numbers and links before the period has come, and which
+-- numbers stand for the same servers. Contracts decide these too: `Leaves`, `lineTaken`
 abbrev pub fedOf : Feed → List ℕ → List ℕ → List Bool → Fed
-fedOf f l w k = fedIn f l (channelOf f w k)
+fedOf f l w k = record { over = f .over; number = f .number; line = take (f .length) l; day = dayOf (f .stage) (channelOf f w k) }
 
 -- ---- every field of a feed, and every element of what is lent to it
 
@@ -66,8 +63,8 @@ unmade atServers = false
 unmade atEntries = false
 unmade atClose = false
 
--- The feed x after n bytes were taken, where it then stands for f: on the same line it has so many
--- bytes more, on another as many as that line; frame and period are the channel's, where there is one
+-- The feed x where n bytes were taken and it stands for f: on the same line it has n bytes more, on
+-- another as many as that line; frame and period are those of the channel, where there is one
 unfoldable pub feedAfter : Feed → ℕ → Fed → Feed
 feedAfter x n f =
     record {
@@ -90,8 +87,8 @@ linksAfter k f = choose (unmade (f .day .stage)) k (f .day .channel .whole)
 abbrev pub lineTaken : Fed → List ℕ → List ℕ → List ℕ
 lineTaken f s l = splice l (length (f .line)) (take (takenBytes f s) s)
 
--- The feed x, the numbers w and the links k become x′, w′ and k′ as n bytes are taken and f is known.
--- Of numbers that are not canonical, which no call makes, the servers are decided: see `fedOf`
+-- The feed x, the numbers w and the links k become x′, w′ and k′ where n bytes are taken and f is
+-- known. Of numbers that are not canonical, made by another hand, the servers are decided (`fedOf`)
 pub record Leaves (x : Feed) (w : List ℕ) (k : List Bool) (n : ℕ) (f : Fed) (x′ : Feed) (w′ : List ℕ) (k′ : List Bool) : Type 0 where
   pub feed : x′ ≡ feedAfter x n f
   pub words : Canonical w → w′ ≡ wordsAfter w f
@@ -127,7 +124,8 @@ pub record Makes (f : Fed) (m : Move) (d : List ℕ) (p : Written) (f′ : Fed) 
   pub out : Writes d 0 (m .lines) p d′
   pub fed : f′ ≡ afterMove f m d
 
--- the same of the feed x and all that is lent to it: the bytes l of the line, the numbers w, the links k
+-- the same of the feed x and all that is lent to it: the bytes l of the line, the numbers w of the
+-- servers and the links k
 pub record MakesIn (x : Feed) (l w : List ℕ) (k : List Bool) (m : Fed → ℕ → Move) (d : List ℕ) (r : Step) (w′ : List ℕ) (k′ : List Bool) (d′ : List ℕ) : Type 0 where
   pub makes : Makes (fedOf x l w k) (m (fedOf x l w k) (length d)) d (r .written) (fedOf (r .feed) l w′ k′) d′
   pub leaves : Leaves x w k 0 (afterMove (fedOf x l w k) (m (fedOf x l w k) (length d)) d) (r .feed) w′ k′

@@ -9,11 +9,9 @@ use Rattle.lists.specs.Choice.{choose}
 use Rattle.lists.specs.Splice.{splice}
 use Rattle.lists.proofs.Cases.{tested, on, other}
 use Rattle.lists.proofs.Splicing.{splice-none}
-use Rattle.refusal.specs.declared.Refusal.{Refusal}
 use Rattle.refusal.specs.Answer.{accepted, refused}
 use Rattle.refusal.proofs.Answers.{not-both}
 use Rattle.text.specs.declared.Written.{Written}
-use Rattle.text.specs.declared.Written.the-variants.{Refused}
 use Rattle.text.specs.Write.{ofWritten}
 use Rattle.feeding.specs.Fed.{Fed}
 use Rattle.printer.specs.declared.Ran.{Ran}

@@ -2,7 +2,7 @@
 use mathlib.Core.Bool.{Bool, true, false}
 use mathlib.Core.Path.{_≡_, refl}
 use mathlib.Core.List.{List, [], _∷_}
-use Prim.Native.Nat.{ℕ, suc, _+_, _-_, _≤_}
+use Prim.Native.Nat.{ℕ, _+_, _-_, _≤_}
 use native.Mathlib.Omega.{arith}
 use lib.Dec.{ltb, eqb}
 use lib.ListN.{length, length-append}
@@ -14,7 +14,7 @@ use Rattle.roles.specs.declared.Verb.{Verb}
 use Rattle.day.specs.Read.{DayLine, wrong, period, server, entry, end, lineRead}
 use Rattle.day.specs.Day.{Stage, atPeriod, atServers, atEntries, atClose, Day, Effect, stop, go, tableOf, periodEffect, addEffect, serverEffect, callEffect, entryEffect, endEffect, opening, inPlace, lineEffect, beyond}
 use Rattle.feeding.specs.Fed.{Fed, closed, waits, withByte, taken, takenBytes}
-use Rattle.feeding.specs.Moves.{Move, effectMove, advancing, placedMove, lineMove, stepMove, both, stepsMove, lastMove}
+use Rattle.feeding.specs.Moves.{Move, effectMove, placedMove, lineMove, stepMove, both, stepsMove, lastMove}
 use Rattle.feeding.proofs.Taking.{taken-none, taken-more, count-none, count-more}
 use Rattle.feed.specs.Answers.{unmade}
 use Rattle.printer.specs.Print.{restMove, turnMove}

@@ -1,22 +1,20 @@
 -- What turns leave of a feed and of what is lent to it. Assumes nothing.
 use mathlib.Core.Bool.{Bool, true, false, not, _&&_}
-use mathlib.Core.Path.{_≡_, refl, sym, ap, ap₂, subst, _∙_}
+use mathlib.Core.Path.{_≡_, refl, sym, ap, subst, _∙_}
 use mathlib.Core.List.{List}
 use Prim.Native.Nat.{ℕ, _+_, _≤_}
 use native.Mathlib.Omega.{arith}
 use borrow.Author.Tests.{eq-eqb, ne-eqb}
 use lib.Dec.{eqb}
-use lib.ListN.{length, take, drop, length-drop}
+use lib.ListN.{length}
 use Rattle.lists.specs.Choice.{choose}
 use Rattle.lists.proofs.Cases.{less, equal, tested, on, clash, chosen, other}
-use Rattle.lists.proofs.Parts.{part-rest}
 use Rattle.refusal.specs.declared.Refusal.{Refusal}
 use Rattle.text.specs.declared.Written.{Written}
 use Rattle.text.specs.declared.Written.the-variants.{To, Refused}
 use Rattle.group.specs.declared.State.{State}
-use Rattle.places.specs.Words.{serversOf, wordsOf, Canonical}
-use Rattle.feeding.specs.Fed.{Fed, takenBytes}
-use Rattle.feeding.specs.Moves.{Move}
+use Rattle.places.specs.Words.{wordsOf, Canonical}
+use Rattle.feeding.specs.Fed.{Fed}
 use Rattle.feed.specs.declared.Feed.{Feed}
 use Rattle.feed.specs.declared.Stage.{Stage}
 use Rattle.feed.specs.declared.Stage.the-variants.{AtPeriod, AtServers, AtEntries, AtClose}
@@ -104,7 +102,7 @@ module _ {x : Feed} {w : List ℕ} {k : List Bool} {i : ℕ} {y : Feed} (l : Lis
 
 -- ---- turns
 
--- the turns so far: what they left, and of numbers for which nothing was done, that they are the same
+-- the turns so far: what they left; where nothing was done each number is as it was
 pub record Leaving (x₀ : Feed) (w₀ : List ℕ) (k₀ : List Bool) (i : ℕ) (x : Feed) (l w : List ℕ) (k : List Bool) (first tooShort : Bool) : Type 0 where
   pub leaves : Leaves x₀ w₀ k₀ i (fedOf x l w k) x w k
   pub later : x₀ .number ≤ x .number

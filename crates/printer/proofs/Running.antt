@@ -224,11 +224,13 @@ module _ {f₀ : Fed} {l₀ s : List ℕ} {last : Bool} {d₀ : List ℕ} {f : F
 pub run-ends : {f₀ : Fed} {l₀ s : List ℕ} {last : Bool} {d₀ : List ℕ} {f : Fed} {l d : List ℕ} {goes first : Bool} {r : Ran} → Running f₀ l₀ s last d₀ f l d (r .used) (r .wrote) goes → Told f₀ s last d₀ f (r .used) (r .wrote) goes first (r .short) → goes ≡ false → Runs f₀ s last d₀ r f d × (l ≡ print f₀ s last (length d₀) .line l₀)
 run-ends {f₀} {l₀} {s} {last} {d₀} {f} {l} {d} {goes} {first} {r} v k e =
     let is : print f₀ s last (length d₀) ≡ onward (v .written) (r .used) (v .filled) (rests f) = v .whole ∙ ap (onward (v .written) (r .used) (v .filled)) (v .done e) in
-    let lines : print f₀ s last (length d₀) .lines ≡ v .written = ap (λ (p : Print). p .lines) is ∙ append-nil (v .written) in
-    (record {
-      short = k .told (k .ends e);
-      used = let y = ap (λ (p : Print). p .used) is in omega arith;
-      wrote = v .place ∙ sym (ap length lines);
-      fed = sym (ap (λ (p : Print). p .fed) is);
-      out = v .slice ∙ sym (ap (splice d₀ 0) lines);
-    }, v .bytes ∙ sym (ap (λ (p : Print). p .line l₀) is))
+    let lines : print f₀ s last (length d₀) .lines ≡ v .written = ap (λ (p : Print). p .lines) is ∙ append-nil (v .written) in (
+      record {
+        short = k .told (k .ends e);
+        used = let y = ap (λ (p : Print). p .used) is in omega arith;
+        wrote = v .place ∙ sym (ap length lines);
+        fed = sym (ap (λ (p : Print). p .fed) is);
+        out = v .slice ∙ sym (ap (splice d₀ 0) lines);
+      },
+      v .bytes ∙ sym (ap (λ (p : Print). p .line l₀) is),
+    )
