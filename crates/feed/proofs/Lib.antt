@@ -1,3 +1,5 @@
+pub mod Leaving
+pub mod Filling
 pub mod Making
 pub mod Staging
 pub mod Pairing

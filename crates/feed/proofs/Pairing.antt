@@ -1,5 +1,5 @@
 -- Two steps. Assumes nothing.
-use mathlib.Core.Bool.{true, false}
+use mathlib.Core.Bool.{Bool, true, false}
 use mathlib.Core.Path.{_≡_, refl, sym, ap, ap₂, subst, _∙_}
 use mathlib.Core.List.{List, [], _++_, append-nil, append-assoc}
 use Prim.Native.Nat.{ℕ, _+_, _-_, _≤_, _<_}
@@ -20,8 +20,11 @@ use Rattle.day.specs.Read.{DayLine, lineRead}
 use Rattle.feeding.specs.Fed.{Fed, waits}
 use Rattle.feeding.specs.Moves.{Move, lineMove, stepMove, stepsMove}
 use Rattle.feeding.proofs.Laws.{line-kept, both-so, both-not, step-idle, step-is}
-use Rattle.feed.specs.Answers.{Makes}
-use Rattle.feed.specs.Steps.{Follows}
+use Rattle.feed.specs.declared.Feed.{Feed}
+use Rattle.feed.specs.declared.Step.{Step}
+use Rattle.feed.specs.Answers.{fedOf, Makes, MakesIn}
+use Rattle.feed.specs.Steps.{MakesAll, Follows}
+use Rattle.feed.proofs.Leaving.{leaves-passed}
 use Rattle.feed.proofs.Making.{it-fits, it-does-not, makes-as}
 
 -- ---- written or not
@@ -49,6 +52,17 @@ module _ {f : Fed} {m : Move} {d : List ℕ} {p : Written} {f′ : Fed} {d′ : 
       let no = it-does-not (written-as e) in
       let h = leb-false (0 + length (m .lines)) (length d) no in
       (omega arith, q .fed ∙ other _ no, q .out .slice ∙ other _ no)
+
+-- what a public call makes, with all that it leaves
+pub makes-in :
+    {x : Feed} {l w : List ℕ} {k : List Bool} {m : Fed → ℕ → Move} {d : List ℕ} {r : Step} {w′ : List ℕ} {k′ : List Bool} {d′ : List ℕ} →
+    MakesAll x l w k (m (fedOf x l w k) (length d)) d (r .written) (r .feed) w′ k′ d′ → MakesIn x l w k m d r w′ k′ d′
+makes-in {l = l} q =
+    record {
+      makes = q .makes;
+      leaves = leaves-passed l (q .passes) (q .makes .fed);
+      same = λ n e. let s = q .same n e in (s .0, s .1, s .2, not-made (q .makes) e .2);
+    }
 
 -- a part of a slice, written
 pub part-written : (d : List ℕ) (at : ℕ) (w : List ℕ) → take at d ++ (splice (drop at d) 0 w ++ drop (length d - at) (drop at d)) ≡ splice d at w

@@ -28,27 +28,29 @@ use Rattle.group.specs.Table.{isTable, tableWith, addRefusal, fresh}
 use Rattle.group.specs.Answers.{Adds, Takes, Gives}
 use Rattle.group.specs.Verbs.{verbOutcome}
 use Rattle.group.proofs.Made.{table-added}
+use Rattle.places.specs.Words.{serversOf, Canonical}
 use Rattle.frame.specs.Answers.{stateOf}
 use Rattle.day.specs.Day.{Day, on as during, atServers, atEntries, tableOf, addEffect, callEffect}
 use Rattle.feeding.specs.Fed.{Fed}
 use Rattle.feeding.specs.Moves.{Move, nextLine, stopping, going, effectMove, placeRefusal}
-use Rattle.feeding.proofs.Calling.{writes-not, gives-written, gives-channel, gives-same, gives-kept, call-allowed, call-short, call-refused}
+use Rattle.feeding.proofs.Calling.{writes-not, gives-written, gives-channel, gives-same, call-allowed, call-short, call-refused}
 use Rattle.feed.specs.declared.Stage.{Stage}
 use Rattle.feed.specs.declared.Stage.the-variants.{AtPeriod, AtServers, AtEntries, AtClose}
 use Rattle.feed.specs.declared.Feed.{Feed}
 use Rattle.feed.specs.declared.Step.{Step}
-use Rattle.feed.specs.Answers.{dayOf, channelOf, fedIn, fedOf, Makes}
-use Rattle.feed.specs.Steps.{turned, refusing, RefusesCall}
-use Rattle.feed.proofs.Making.{makes-written, makes-refused, makes-as}
+use Rattle.feed.specs.Answers.{dayOf, channelOf, fedOf}
+use Rattle.feed.specs.Steps.{MakesAll, turned, refusing, RefusesCall}
+use Rattle.feed.proofs.Leaving.{not-refused, made-entries, passes-same, passes-turned}
+use Rattle.feed.proofs.Making.{makes-written, makes-refused, makes-as, does-as}
 
 -- ---- stages
 
 -- what holds of the day in its stage holds of the feed's day
 module _ (x : Feed) {g : Stage} (e : x .stage ≡ g) where
-  pub makes-at :
-      (l w : List ℕ) (k : List Bool) {d : List ℕ} {p : Written} {f′ : Fed} {d′ : List ℕ} (m : Day → Move) → Makes (fedOf x l w k) (m (dayOf g (channelOf x w k))) d p f′ d′ →
-      Makes (fedOf x l w k) (m (fedOf x l w k .day)) d p f′ d′
-  makes-at l w k m q = makes-as (ap (λ (s : Stage). m (dayOf s (channelOf x w k))) (sym e)) q
+  pub does-at :
+      (l w : List ℕ) (k : List Bool) {d : List ℕ} {p : Written} {y : Feed} {w′ : List ℕ} {k′ : List Bool} {d′ : List ℕ} (m : Day → Move) → MakesAll x l w k (m (dayOf g (channelOf x w k))) d p y w′ k′ d′ →
+      MakesAll x l w k (m (fedOf x l w k .day)) d p y w′ k′ d′
+  does-at l w k m q = does-as (ap (λ (s : Stage). m (dayOf s (channelOf x w k))) (sym e)) q
 
   pub place-at : (c : State) {n : ℕ} → n ≡ placeRefusal (dayOf g c .stage) (dayOf g c .channel) → n ≡ placeRefusal (dayOf (x .stage) c .stage) (dayOf (x .stage) c .channel)
   place-at c q = q ∙ ap (λ (s : Stage). placeRefusal (dayOf s c .stage) (dayOf s c .channel)) (sym e)
@@ -60,10 +62,6 @@ open-channel AtPeriod c e = absurd (omega arith)
 open-channel AtServers c e = refl
 open-channel AtEntries c e = refl
 open-channel AtClose c e = refl
-
--- where servers and links are the same, so is what a feed stands for
-pub same-fed : (x : Feed) (l : List ℕ) {s s′ : List Server} {k k′ : List Bool} {t u : ℕ} {p q : Period} → stateOf t p s′ k′ ≡ stateOf u q s k → fedIn x l (stateOf (x .frame) (x .period) s′ k′) ≡ fedIn x l (stateOf (x .frame) (x .period) s k)
-same-fed x l e = ap (λ (c : State). fedIn x l (stateOf (x .frame) (x .period) (c .servers) (c .whole))) e
 
 -- ---- a period in its range
 
@@ -128,30 +126,34 @@ added-table t i p q v = ap (λ (x : Table). isTable (x .servers)) (q .table) ∙
 
 -- ---- a verb
 
-module _ (x : Feed) (l w : List ℕ) (k : List Bool) (v : Verb) (a b : ℕ) {d : List ℕ} {u : Verdict} {n : ℕ} {s′ : List Server} {k′ : List Bool} {d₁ : List ℕ}
-    (g : Gives (channelOf x w k) (verbOutcome (channelOf x w k) v a b) d u n (stateOf (x .frame) (x .period) s′ k′) d₁) where
+module _ (x : Feed) (l w : List ℕ) (k : List Bool) (v : Verb) (a b : ℕ) {d : List ℕ} {u : Verdict} {n : ℕ} (w′ : List ℕ) {k′ : List Bool} {d₁ : List ℕ}
+    (g : Gives (channelOf x w k) (verbOutcome (channelOf x w k) v a b) d u n (stateOf (x .frame) (x .period) (serversOf w′) k′) d₁) where
   abbrev f : Fed
   f = fedOf x l w k
 
   abbrev c : State
   c = channelOf x w k
 
-  -- what a feed stands for after it
-  abbrev then : Feed → Fed
-  then y = fedIn y l (stateOf (y .frame) (y .period) s′ k′)
+  pub call-so : {y : Feed} → (Canonical w → Canonical w′) → u ≡ Accepted → y ≡ turned x AtEntries → MakesAll x l w k (effectMove f (callEffect [] c v a b)) d (To n) y w′ k′ d₁
+  call-so {y} form e q =
+      record {
+        makes =
+            makes-as (ap (effectMove f) (sym (call-allowed c v a b g e)))
+            (makes-written (gives-written g e) (ap (λ (z : Feed). fedOf z l w′ k′) q ∙ ap (λ (z : State). nextLine f (during atEntries z)) (gives-channel g e)));
+        passes = passes-turned form made-entries q;
+        same = λ i z. not-refused z;
+      }
 
-  pub call-so : (y : Feed) → u ≡ Accepted → y ≡ turned x AtEntries → Makes f (effectMove f (callEffect [] c v a b)) d (To n) (then y) d₁
-  call-so y e q =
-      makes-as (ap (effectMove f) (sym (call-allowed c v a b g e)))
-      (makes-written (gives-written g e) (ap then q ∙ ap (λ (z : State). nextLine f (during atEntries z)) (gives-channel g e)))
-
-  pub call-not : {j : Refusal} {r : Step} {d₂ : List ℕ} → u ≡ Refused j → RefusesCall x a j d₁ r d₂ → Makes f (effectMove f (callEffect [] c v a b)) d (r .written) (then (r .feed)) d₂
-  call-not {j} {r} {d₂} e q =
-      on (equal (numberOf j) 9)
+  pub call-not : {j : Refusal} {r : Step} {d₂ : List ℕ} → u ≡ Refused j → ((w′ ≡ w) × (k′ ≡ k)) → RefusesCall x a j d₁ r d₂ → MakesAll x l w k (effectMove f (callEffect [] c v a b)) d (r .written) (r .feed) w′ k′ d₂
+  call-not {j} {r} {d₂} e s q =
+      rw (s .0, s .1)
+      (on (equal (numberOf j) 9)
       (λ z.
-      let s = call-short c v a b g e z in
+      let h = call-short c v a b g e z in
       let p = q .short z in
-      rw (p .0, p .1) (makes-as (ap (effectMove f) (sym (s .0))) (makes-refused (writes-not (s .1) z (p .2 ∙ gives-same g e)) (same-fed x l (gives-kept g e)))))
+      rw (p .0, p .1)
+      (does-as (ap (effectMove f) (sym (h .0)))
+      (record { makes = makes-refused (writes-not (h .1) z (p .2 ∙ gives-same g e)) refl; passes = passes-same; same = λ i z. (refl, refl, refl) })))
       (λ z.
-      rw (same-fed (r .feed) l (gives-kept g e))
-      (makes-as (ap (effectMove f) (sym (call-refused c v a b g e z))) (subst (λ (y : List ℕ). Makes f (refusing a (numberOf j) f c) y (r .written) (fedOf (r .feed) l w k) d₂) (gives-same g e) (q .long z w k l))))
+      does-as (ap (effectMove f) (sym (call-refused c v a b g e z)))
+      (subst (λ (y : List ℕ). MakesAll x l w k (refusing a (numberOf j) f c) y (r .written) (r .feed) w k d₂) (gives-same g e) (q .long z w k l))))

@@ -2,6 +2,7 @@
 use mathlib.Core.Bool.{Bool, true}
 use mathlib.Core.Path.{_≡_}
 use mathlib.Core.List.{List}
+use mathlib.Core.Logic.{_⊎_}
 use Prim.Native.Nat.{ℕ, _+_, _-_, _≤_, _<_}
 use lib.ListN.{length}
 use Rattle.lists.specs.Splice.{splice}
@@ -11,6 +12,7 @@ use Rattle.refusal.specs.Answer.{ofVerdict, numberOf}
 use Rattle.text.specs.declared.Written.{Written}
 use Rattle.text.specs.declared.Written.the-variants.{To, Refused}
 use Rattle.group.specs.declared.State.{State}
+use Rattle.places.specs.Words.{Canonical}
 use Rattle.day.specs.Day.{on, atEntries, refusal}
 use Rattle.day.specs.Read.{lineRead}
 use Rattle.dayline.specs.declared.DayLine.{DayLine}
@@ -18,18 +20,31 @@ use Rattle.dayline.specs.DayLine.{ofDayLine}
 use Rattle.feeding.specs.Fed.{Fed, waits}
 use Rattle.feeding.specs.Moves.{Move, going, placeRefusal, stepMove}
 use Rattle.feed.specs.declared.Stage.{Stage}
+use Rattle.feed.specs.declared.Stage.the-variants.{AtPeriod}
 use Rattle.feed.specs.declared.Feed.{Feed}
 use Rattle.feed.specs.declared.Filled.{Filled}
 use Rattle.feed.specs.declared.Step.{Step}
-use Rattle.feed.specs.Answers.{channelOf, fedOf, Takes, Makes}
+use Rattle.feed.specs.Answers.{channelOf, fedOf, TakesIn, Makes}
 
 -- the line l, filled from the piece s
 abbrev pub Fills : Feed → List ℕ → List ℕ → Filled → Type 0
-Fills x l s r = (w : List ℕ) (k : List Bool) → Takes (fedOf x l w k) s (r .used) (fedOf (r .feed) (r .line) w k)
+Fills x l s r = (w : List ℕ) (k : List Bool) → TakesIn x l w k s (r .used) (r .feed) (r .line)
+
+-- a line that is kept or done, before there is a channel or on one
+pub record Passes (x : Feed) (w : List ℕ) (k : List Bool) (x′ : Feed) (w′ : List ℕ) (k′ : List Bool) : Type 0 where
+  pub line : ((x′ .number ≡ x .number) × (x′ .length ≡ x .length)) ⊎ ((x .number < x′ .number) × (x′ .length ≡ 0))
+  pub before : x′ .stage ≡ AtPeriod → (x .stage ≡ AtPeriod) × (x′ .frame ≡ x .frame) × (x′ .period ≡ x .period) × (w′ ≡ w) × (k′ ≡ k)
+  pub form : Canonical w → Canonical w′
+
+-- the move m, and what becomes of the feed and of what is lent to it
+pub record MakesAll (x : Feed) (l w : List ℕ) (k : List Bool) (m : Move) (d : List ℕ) (p : Written) (x′ : Feed) (w′ : List ℕ) (k′ : List Bool) (d′ : List ℕ) : Type 0 where
+  pub makes : Makes (fedOf x l w k) m d p (fedOf x′ l w′ k′) d′
+  pub passes : Passes x w k x′ w′ k′
+  pub same : (n : Refusal) → p ≡ Refused n → (x′ ≡ x) × (w′ ≡ w) × (k′ ≡ k)
 
 -- a move, made from what is known and the channel, whatever the line is: w and k are the numbers and the links before it, w′ and k′ those after it
 abbrev pub Does : Feed → List ℕ → List Bool → (Fed → State → Move) → List ℕ → Step → List ℕ → List Bool → List ℕ → Type 0
-Does x w k m d r w′ k′ d′ = (l : List ℕ) → Makes (fedOf x l w k) (m (fedOf x l w k) (channelOf x w k)) d (r .written) (fedOf (r .feed) l w′ k′) d′
+Does x w k m d r w′ k′ d′ = (l : List ℕ) → MakesAll x l w k (m (fedOf x l w k) (channelOf x w k)) d (r .written) (r .feed) w′ k′ d′
 
 -- the same where they stay, whatever they are
 abbrev pub Keeps : Feed → (Fed → State → Move) → List ℕ → Step → List ℕ → Type 0
@@ -53,6 +68,12 @@ pub record Follows (f : Fed) (n : ℕ) (d : List ℕ) (p : Written) (f′ : Fed)
       length (stepMove f (length d - n) .lines) ≤ length d - n →
       (p ≡ To (n + length (stepMove f (length d - n) .lines))) × (f′ ≡ stepMove f (length d - n) .fed) × (d′ ≡ splice d n (stepMove f (length d - n) .lines))
   pub not : length d - n < length (stepMove f (length d - n) .lines) → (p ≡ To n) × (f′ ≡ f) × (d′ ≡ d)
+
+-- the same of the feed x and what is lent to it; it is never refused
+pub record FollowsAll (x : Feed) (l w : List ℕ) (k : List Bool) (n : ℕ) (d : List ℕ) (p : Written) (x′ : Feed) (w′ : List ℕ) (k′ : List Bool) (d′ : List ℕ) : Type 0 where
+  pub follows : Follows (fedOf x l w k) n d p (fedOf x′ l w′ k′) d′
+  pub passes : Passes x w k x′ w′ k′
+  pub taken : (i : Refusal) → p ≡ Refused i → ⊥
 
 -- after a write that was done, or refused
 abbrev pub ifWritten : Written → Feed → Feed → Feed

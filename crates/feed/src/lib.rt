@@ -30,8 +30,8 @@ ghost use Rattle.dayline.specs.DayLine.{ofDayLine};
 ghost use Rattle.feeding.specs.Fed.{wholeLine};
 ghost use Rattle.feeding.specs.Moves.{ended, stopping, going, effectMove, framesNow, advancing, placedMove, lineMove, stepMove, stepsMove};
 ghost use Rattle.feeding.specs.Steps.{onMove, Sized};
-ghost use Rattle.feed.specs.Answers.{fedOf, Begins, Waits, IsOver, TakesTo, Makes, Finishes};
-ghost use Rattle.feed.specs.Steps.{Fills, Does, Keeps, Becomes, IsOf, Follows, turned, Puts, refusing, RefusesCall, Opens};
+ghost use Rattle.feed.specs.Answers.{fedOf, Begins, Waits, IsOver, TakesTo, MakesIn, Finishes};
+ghost use Rattle.feed.specs.Steps.{Fills, Does, Keeps, Becomes, IsOf, FollowsAll, turned, Puts, refusing, RefusesCall, Opens};
 
 // Which lines have come.
 pub enum Stage {
@@ -630,7 +630,7 @@ impl Feed {
         whole: &mut Links,
         out: &mut [u8],
     ) -> Step
-        ensures { λ r. ⌜ Makes (fedOf self (now (line .entry)) (now (words .entry)) (now (whole .entry))) (stepMove (fedOf self (now (line .entry)) (now (words .entry)) (now (whole .entry))) (length (now (out .entry)))) (now (out .entry)) (r .written) (fedOf (r .feed) (now (line .entry)) (now (words .exit)) (now (whole .exit))) (now (out .exit)) ⌝ }
+        ensures { λ r. ⌜ MakesIn self (now (line .entry)) (now (words .entry)) (now (whole .entry)) stepMove (now (out .entry)) r (now (words .exit)) (now (whole .exit)) (now (out .exit)) ⌝ }
     {
         if !self.waits(line) {
             return Step {
@@ -653,7 +653,7 @@ impl Feed {
         out: &mut [u8],
     ) -> Step
         requires { ⌜ (n ≤ length (now out)) × Sized (ofDayLine read) × IsOf read (fedOf self (now line) (now words) (now whole)) ⌝ }
-        ensures { λ r. ⌜ Follows (fedOf self (now (line .entry)) (now (words .entry)) (now (whole .entry))) n (now (out .entry)) (r .written) (fedOf (r .feed) (now (line .entry)) (now (words .exit)) (now (whole .exit))) (now (out .exit)) ⌝ }
+        ensures { λ r. ⌜ FollowsAll self (now (line .entry)) (now (words .entry)) (now (whole .entry)) n (now (out .entry)) (r .written) (r .feed) (now (words .exit)) (now (whole .exit)) (now (out .exit)) ⌝ }
     {
         if !self.waits(line) {
             return Step {
@@ -684,7 +684,7 @@ impl Feed {
         whole: &mut Links,
         out: &mut [u8],
     ) -> Step
-        ensures { λ r. ⌜ Makes (fedOf self (now (line .entry)) (now (words .entry)) (now (whole .entry))) (stepsMove (fedOf self (now (line .entry)) (now (words .entry)) (now (whole .entry))) (length (now (out .entry)))) (now (out .entry)) (r .written) (fedOf (r .feed) (now (line .entry)) (now (words .exit)) (now (whole .exit))) (now (out .exit)) ⌝ }
+        ensures { λ r. ⌜ MakesIn self (now (line .entry)) (now (words .entry)) (now (whole .entry)) stepsMove (now (out .entry)) r (now (words .exit)) (now (whole .exit)) (now (out .exit)) ⌝ }
     {
         if !self.waits(line) {
             return Step {

@@ -1,17 +1,20 @@
 -- One call: turn by turn. Assumes nothing.
 use mathlib.Core.Bool.{Bool, true, false, not}
-use mathlib.Core.Path.{_≡_, refl, sym, ap, ap₂, subst, _∙_}
+use mathlib.Core.Path.{_≡_, refl, sym, ap, ap₂, subst, fun-ext, _∙_}
 use mathlib.Core.List.{List, [], _++_, append-nil, append-assoc}
 use mathlib.Core.Logic.{_⊎_, inl, inr}
-use Prim.Native.Nat.{ℕ, zero, suc, _-_, _≤_, _<_}
+use Prim.Native.Nat.{ℕ, zero, suc, _+_, _-_, _≤_, _<_}
 use native.Mathlib.Omega.{arith}
 use borrow.Author.Tests.{le-leb, lt-leb}
-use lib.ListN.{length, drop, length-append, length-drop}
+use lib.ListN.{length, take, drop, length-append, length-drop}
 use lib.Seq.{drop-drop}
+use Rattle.lists.specs.Splice.{splice}
 use Rattle.lists.proofs.Cases.{tested, on, less, and-left}
+use Rattle.lists.proofs.Splicing.{splice-none}
 use Rattle.feeding.specs.Fed.{Fed, takenBytes, remaining}
 use Rattle.feeding.specs.Moves.{Move, nothing}
 use Rattle.feeding.specs.Bound.{stepBytes, Bounded}
+use Rattle.feed.specs.Answers.{lineTaken}
 use Rattle.printer.specs.Print.{turnMove, Print, rests, first, turns, turnsLeft, print}
 use Rattle.printer.specs.Steps.{busy}
 use Rattle.printer.proofs.Turning.{busy-more, turn-idle, idle-over, turn-left, taken-within, turn-bounded, turn-fits, turn-less, turn-no-more}
@@ -22,7 +25,7 @@ module _ (n : ℕ) (f : Fed) (s : List ℕ) (last : Bool) (room : ℕ) where
   abbrev move : Move
   move = turnMove f s last room
 
-  turns-fit : length (move .lines) ≤ room → turns (suc n) f s last room ≡ first move (takenBytes f s) (turns n (move .fed) (drop (takenBytes f s) s) last (room - length (move .lines)))
+  turns-fit : length (move .lines) ≤ room → turns (suc n) f s last room ≡ first f s move (turns n (move .fed) (drop (takenBytes f s) s) last (room - length (move .lines)))
   unfolding turns
   turns-fit h = rw (le-leb (length (move .lines)) room h, turns)
 
@@ -34,6 +37,15 @@ turns-none : (f : Fed) (s : List ℕ) (last : Bool) (room : ℕ) → turns zero 
 unfolding turns
 turns-none f s last room = refl
 
+-- no byte taken to the line
+pub line-none : (f : Fed) (s l : List ℕ) → takenBytes f s ≡ 0 → lineTaken f s l ≡ l
+line-none f s l e = ap (λ (n : ℕ). splice l (length (f .line)) (take n s)) e ∙ splice-none l (length (f .line))
+
+first-none : (f : Fed) (s : List ℕ) {m : Move} → m ≡ nothing f → takenBytes f s ≡ 0 → first f s m (rests f) ≡ rests f
+first-none f s e z =
+    ap (λ (x : Move). first f s x (rests f)) e
+    ∙ ap₂ (λ (n : ℕ) (t : List ℕ → List ℕ). record { lines = []; used = n; fed = f; line = t }) (let y : takenBytes f s + 0 ≡ 0 = omega arith in y) (fun-ext (λ l. line-none f s l z))
+
 -- nothing to do
 turns-idle : (n : ℕ) (f : Fed) (s : List ℕ) (last : Bool) (room : ℕ) → busy f s last ≡ false → turns n f s last room ≡ rests f
 turns-idle zero f s last room b = turns-none f s last room
@@ -41,8 +53,9 @@ turns-idle (suc n) f s last room b =
     let p = turn-idle f last room s b in
     let z = ap (λ (x : Move). length (x .lines)) (p .0) in
     turns-fit n f s last room (omega arith)
-    ∙ ap₂ (λ (x : Move) (k : ℕ). first x k (turns n (x .fed) (drop k s) last (room - length (x .lines)))) (p .0) (p .1)
-    ∙ ap (first (nothing f) 0) (turns-idle n f s last (room - 0) b)
+    ∙ ap (first f s (turnMove f s last room))
+    (ap₂ (λ (x : Move) (k : ℕ). turns n (x .fed) (drop k s) last (room - length (x .lines))) (p .0) (p .1) ∙ turns-idle n f s last (room - 0) b)
+    ∙ first-none f s (p .0) (p .1)
 
 left-long : (f : Fed) (s : List ℕ) → length (drop (takenBytes f s) s) ≡ length s - takenBytes f s
 left-long f s = length-drop (takenBytes f s) s
@@ -64,7 +77,7 @@ enough (suc n) (suc k) f s last room h i =
     (λ o. turns-short n f s last room o ∙ sym (turns-short k f s last room o))
     (λ o.
     turns-fit n f s last room o
-    ∙ ap (first m (takenBytes f s)) (enough n k (m .fed) (drop (takenBytes f s) s) last (room - length (m .lines)) (omega arith) (omega arith))
+    ∙ ap (first f s m) (enough n k (m .fed) (drop (takenBytes f s) s) last (room - length (m .lines)) (omega arith) (omega arith))
     ∙ sym (turns-fit k f s last room o)))
     (λ b. turns-idle (suc n) f s last room b ∙ sym (turns-idle (suc k) f s last room b))
 
@@ -79,13 +92,13 @@ module _ (f : Fed) (s : List ℕ) (last : Bool) (room : ℕ) where
   one-more = enough (turnsLeft f (length s)) (suc (turnsLeft f (length s))) f s last room (omega arith) (omega arith)
 
   -- a turn that fits, and what comes after it
-  pub print-first : length (turned .lines) ≤ room → print f s last room ≡ first turned (takenBytes f s) (print (turned .fed) (drop (takenBytes f s) s) last (room - length (turned .lines)))
+  pub print-first : length (turned .lines) ≤ room → print f s last room ≡ first f s turned (print (turned .fed) (drop (takenBytes f s) s) last (room - length (turned .lines)))
   unfolding print
   print-first h =
       let no-more : turnsLeft (turned .fed) (length (drop (takenBytes f s) s)) ≤ turnsLeft f (length s) = rw (left-long f s) (turn-no-more f last room s) in
       one-more
       ∙ turns-fit (turnsLeft f (length s)) f s last room h
-      ∙ ap (first turned (takenBytes f s)) (enough (turnsLeft f (length s)) (turnsLeft (turned .fed) (length (drop (takenBytes f s) s))) (turned .fed) (drop (takenBytes f s) s) last (room - length (turned .lines)) no-more (omega arith))
+      ∙ ap (first f s turned) (enough (turnsLeft f (length s)) (turnsLeft (turned .fed) (length (drop (takenBytes f s) s))) (turned .fed) (drop (takenBytes f s) s) last (room - length (turned .lines)) no-more (omega arith))
 
   -- one that does not
   pub print-short : room < length (turned .lines) → print f s last room ≡ rests f
@@ -102,7 +115,7 @@ module _ (f : Fed) (s : List ℕ) (last : Bool) (room : ℕ) where
 module _ (P : Fed → List ℕ → ℕ → Print → Type 0) (last : Bool)
     (rest : (f : Fed) (s : List ℕ) (room : ℕ) → P f s room (rests f))
     (turn : (f : Fed) (s : List ℕ) (room : ℕ) (p : Print) → length (turnMove f s last room .lines) ≤ room →
-    P (turnMove f s last room .fed) (drop (takenBytes f s) s) (room - length (turnMove f s last room .lines)) p → P f s room (first (turnMove f s last room) (takenBytes f s) p)) where
+    P (turnMove f s last room .fed) (drop (takenBytes f s) s) (room - length (turnMove f s last room .lines)) p → P f s room (first f s (turnMove f s last room) p)) where
   by-turns : (n : ℕ) (f : Fed) (s : List ℕ) (room : ℕ) → P f s room (turns n f s last room)
   by-turns zero f s room = subst (P f s room) (sym (turns-none f s last room)) (rest f s room)
   by-turns (suc n) f s room =
@@ -159,10 +172,10 @@ stays-over f s last room o = ap (λ (p : Print). p .fed .over) (print-idle f s l
 abbrev pub Moved : Print → Type 0
 Moved p = (0 < p .used) ⊎ ((0 < length (p .lines)) ⊎ (p .fed .over ≡ true))
 
-moved-first : (m : Move) (n : ℕ) (p : Print) → Moved p → Moved (first m n p)
-moved-first m n p (inl h) = inl (omega arith)
-moved-first m n p (inr (inl h)) = inr (inl (let l = length-append (m .lines) (p .lines) in omega arith))
-moved-first m n p (inr (inr h)) = inr (inr h)
+moved-first : (f : Fed) (s : List ℕ) (m : Move) (p : Print) → Moved p → Moved (first f s m p)
+moved-first f s m p (inl h) = inl (omega arith)
+moved-first f s m p (inr (inl h)) = inr (inl (let l = length-append (m .lines) (p .lines) in omega arith))
+moved-first f s m p (inr (inr h)) = inr (inr h)
 
 -- with room for every step it takes, writes or is over: a step that prints nothing leaves fewer
 moves : (n : ℕ) (f : Fed) (s : List ℕ) (last : Bool) (room : ℕ) → turnsLeft f (length s) ≤ n → Bounded f → stepBytes ≤ room → busy f s last ≡ true →
@@ -175,7 +188,7 @@ moves (suc n) f s last room h q r b more =
     let rest = print (m .fed) (drop k s) last (room - length (m .lines)) in
     subst Moved (sym (print-first f s last room fit))
     (on (tested (m .fed .over))
-    (λ o. moved-first m k rest (inr (inr (stays-over (m .fed) (drop k s) last (room - length (m .lines)) o))))
+    (λ o. moved-first f s m rest (inr (inr (stays-over (m .fed) (drop k s) last (room - length (m .lines)) o))))
     (λ o.
     on (less 0 k)
     (λ some. inl (omega arith))
@@ -185,7 +198,7 @@ moves (suc n) f s last room h q r b more =
     (λ some. inr (inl (let l = length-append (m .lines) (rest .lines) in omega arith)))
     (λ blank.
     let fewer = turn-less f last room s b in
-    moved-first m k rest
+    moved-first f s m rest
     (rw z
     (moves n (m .fed) s last (room - length (m .lines)) (let e = ap (turnsLeft (m .fed)) (let y : length s - k ≡ length s = omega arith in y) in omega arith) (turn-bounded f last room s q) (omega arith) (more (m .fed) o) more))))))
 

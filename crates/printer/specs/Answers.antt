@@ -6,9 +6,13 @@ use Prim.Native.Nat.{ℕ}
 use lib.ListN.{length}
 use Rattle.lists.specs.Choice.{choose}
 use Rattle.lists.specs.Splice.{splice}
+use Rattle.refusal.specs.declared.Refusal.{Refusal}
 use Rattle.refusal.specs.Answer.{accepted, refused}
+use Rattle.text.specs.declared.Written.the-variants.{Refused}
 use Rattle.text.specs.Write.{ofWritten}
 use Rattle.feeding.specs.Fed.{Fed}
+use Rattle.feed.specs.declared.Feed.{Feed}
+use Rattle.feed.specs.Answers.{fedOf, Leaves}
 use Rattle.printer.specs.declared.Printed.{Printed}
 use Rattle.printer.specs.Print.{print, short}
 use Rattle.printer.specs.Laws.{Laws}
@@ -22,3 +26,12 @@ pub record Prints (f : Fed) (s : List ℕ) (last : Bool) (d : List ℕ) (r : Pri
   pub fed : f′ ≡ print f s last (length d) .fed
   pub out : d′ ≡ splice d 0 (print f s last (length d) .lines)
   pub laws : Laws
+
+-- the same of the feed x and all that is lent to it: the bytes l of the line, the numbers w of the
+-- servers and the links k. Each field, and each element, is decided
+pub record PrintsIn (x : Feed) (l w : List ℕ) (k : List Bool) (s : List ℕ) (last : Bool) (d : List ℕ) (r : Printed) (l′ w′ : List ℕ) (k′ : List Bool) (d′ : List ℕ) : Type 0 where
+  pub prints : Prints (fedOf x l w k) s last d r (fedOf (r .feed) l′ w′ k′) d′
+  pub leaves : let p = print (fedOf x l w k) s last (length d) in Leaves x w k (p .used) (p .fed) (r .feed) w′ k′
+  pub line : l′ ≡ print (fedOf x l w k) s last (length d) .line l
+  -- 9: all is as it was
+  pub same : (n : Refusal) → r .written ≡ Refused n → (r .feed ≡ x) × (l′ ≡ l) × (w′ ≡ w) × (k′ ≡ k) × (d′ ≡ d)

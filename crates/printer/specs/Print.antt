@@ -9,6 +9,7 @@ use Rattle.timecode.specs.Label.{dayLength}
 use Rattle.feeding.specs.Fed.{Fed, waits, taken, takenBytes}
 use Rattle.feeding.specs.Moves.{Move, nothing, stepsMove, lastMove}
 use Rattle.feeding.specs.Laws.{stepsLeft}
+use Rattle.feed.specs.Answers.{lineTaken}
 
 -- ---- a turn, with the bytes s of a piece and whether the piece is the last
 
@@ -23,19 +24,27 @@ turnMove f s last room = choose (waits f) (stepsMove f room) (restMove f s last)
 
 -- ---- a call
 
--- what is printed, how many bytes of the piece are taken, and what is known then
+-- what is printed, how many bytes of the piece are taken, what is known then, and what becomes of
+-- the bytes that are lent for the line under way
 pub record Print : Type 0 where
   pub lines : List ℕ
   pub used : ℕ
   pub fed : Fed
+  pub line : List ℕ → List ℕ
 
 -- nothing is done
 abbrev pub rests : Fed → Print
-rests f = record { lines = []; used = 0; fed = f }
+rests f = record { lines = []; used = 0; fed = f; line = λ l. l }
 
--- the move m, which took n bytes, and then p
-abbrev pub first : Move → ℕ → Print → Print
-first m n p = record { lines = m .lines ++ p .lines; used = n + p .used; fed = p .fed }
+-- the move m of f, which takes bytes of s to its line, and then p
+abbrev pub first : Fed → List ℕ → Move → Print → Print
+first f s m p =
+    record {
+      lines = m .lines ++ p .lines;
+      used = takenBytes f s + p .used;
+      fed = p .fed;
+      line = λ l. p .line (lineTaken f s l);
+    }
 
 -- of n turns as many as fit into so many bytes, one after the other
 unfoldable pub turns : ℕ → Fed → List ℕ → Bool → ℕ → Print
@@ -43,7 +52,7 @@ turns zero f s last room = rests f
 turns (suc n) f s last room =
     let m = turnMove f s last room in
     elim (leb (length (m .lines)) room) [
-      | true ↦ first m (takenBytes f s) (turns n (m .fed) (drop (takenBytes f s) s) last (room - length (m .lines)))
+      | true ↦ first f s m (turns n (m .fed) (drop (takenBytes f s) s) last (room - length (m .lines)))
       | false ↦ rests f
     ]
 

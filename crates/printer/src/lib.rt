@@ -10,9 +10,8 @@ ghost use mathlib.Core.List.{[], _∷_};
 ghost use Rattle.lists.specs.Choice.{choose};
 ghost use Rattle.refusal.specs.Answer.{accepted, refused};
 ghost use Rattle.text.specs.Write.{ofWritten};
-ghost use Rattle.feed.specs.Answers.{fedOf};
-ghost use Rattle.printer.specs.Answers.{Prints};
-ghost use Rattle.printer.specs.Steps.{putBy, Ends, Turns, Runs};
+ghost use Rattle.printer.specs.Answers.{PrintsIn};
+ghost use Rattle.printer.specs.Steps.{putBy, Ends, TurnsIn, RunsIn};
 
 // How many bytes of the piece were taken, how many were written, and whether the sheet is over; 9
 // where the slice is too short for the next lines, and then the feed as it was.
@@ -97,7 +96,7 @@ fn turn(
     last: bool,
     out: &mut [u8],
 ) -> Turned
-    ensures { λ r. ⌜ Turns (fedOf feed (now (line .entry)) (now (words .entry)) (now (whole .entry))) (now (piece .entry)) last (now (out .entry)) r (fedOf (r .feed) (now (line .exit)) (now (words .exit)) (now (whole .exit))) (now (out .exit)) ⌝ }
+    ensures { λ r. ⌜ TurnsIn feed (now (line .entry)) (now (words .entry)) (now (whole .entry)) (now (piece .entry)) last (now (out .entry)) r (now (line .exit)) (now (words .exit)) (now (whole .exit)) (now (out .exit)) ⌝ }
 {
     if feed.waits(line) {
         let step = feed.steps(line, words, whole, out);
@@ -136,7 +135,7 @@ fn run(
     last: bool,
     out: &mut [u8],
 ) -> Ran
-    ensures { λ r. ⌜ Runs (fedOf feed (now (line .entry)) (now (words .entry)) (now (whole .entry))) (now (piece .entry)) last (now (out .entry)) r (fedOf (r .feed) (now (line .exit)) (now (words .exit)) (now (whole .exit))) (now (out .exit)) ⌝ }
+    ensures { λ r. ⌜ RunsIn feed (now (line .entry)) (now (words .entry)) (now (whole .entry)) (now (piece .entry)) last (now (out .entry)) r (now (line .exit)) (now (words .exit)) (now (whole .exit)) (now (out .exit)) ⌝ }
 {
     let mut now = feed;
     let mut used: usize = 0;
@@ -191,7 +190,7 @@ pub fn print(
     last: bool,
     out: &mut [u8],
 ) -> Printed
-    ensures { λ r. ⌜ Prints (fedOf feed (now (line .entry)) (now (words .entry)) (now (whole .entry))) (now (piece .entry)) last (now (out .entry)) r (fedOf (r .feed) (now (line .exit)) (now (words .exit)) (now (whole .exit))) (now (out .exit)) ⌝ }
+    ensures { λ r. ⌜ PrintsIn feed (now (line .entry)) (now (words .entry)) (now (whole .entry)) (now (piece .entry)) last (now (out .entry)) r (now (line .exit)) (now (words .exit)) (now (whole .exit)) (now (out .exit)) ⌝ }
 {
     let ran = run(feed, line, words, whole, piece, last, out);
     let next = ran.feed;

@@ -38,16 +38,16 @@ same-length : tie.Need-same-length-2 Inv-loop μ-loop
 same-length c = omega (arith, c .before .before .before .before .before .before .before .before .before .before .before .before .before .before .loop .inv .0, c .before .before .before .before .before .before .print .kept, c .before .before .before .before .before .before .before .before .before .before .before .before .before .before .before .before .before .before .before .before .before .begin .kept)
 
 returns-2 : tie.Need-returns-2 Inv-loop μ-loop
-returns-2 c = let v = c .before .before .before .before .before .before .before .before .before .before .before .before .before .before .loop .inv in sym (lt-leb _ _ (count-over (v .2) (c .before .before .before .before .before .before .print .ensures) (v .1) (sym (c .before .before .before .before .before .before .before .before .before .before .before .before .before .over .ensures [] [] []) ∙ not-true _ (c .before .before .before .before .before .before .before .before .before .before .before .before .if2 .taken)) (c .before .before .spend2 .ensures) (not-true _ (c .if3 .taken))))
+returns-2 c = let v = c .before .before .before .before .before .before .before .before .before .before .before .before .before .before .loop .inv in sym (lt-leb _ _ (count-over (v .2) (c .before .before .before .before .before .before .print .ensures .prints) (v .1) (sym (c .before .before .before .before .before .before .before .before .before .before .before .before .before .over .ensures [] [] []) ∙ not-true _ (c .before .before .before .before .before .before .before .before .before .before .before .before .if2 .taken)) (c .before .before .spend2 .ensures) (not-true _ (c .if3 .taken))))
 
 add-i : tie.Need-add-i Inv-loop μ-loop
-add-i c = let v = c .before .before .before .before .before .before .before .before .before .before .before .before .before .before .before .loop .inv in omega (arith, c .before .before .before .before .before .before .before .before .before .before .before .before .before .before .before .before .before .before .before .before .before .before .before .before .before .before .good .0 .0, used-within (v .2) (c .before .before .before .before .before .before .before .print .ensures) (v .1) (sym (c .before .before .before .before .before .before .before .before .before .before .before .before .before .before .over .ensures [] [] []) ∙ not-true _ (c .before .before .before .before .before .before .before .before .before .before .before .before .before .if2 .taken)))
+add-i c = let v = c .before .before .before .before .before .before .before .before .before .before .before .before .before .before .before .loop .inv in omega (arith, c .before .before .before .before .before .before .before .before .before .before .before .before .before .before .before .before .before .before .before .before .before .before .before .before .before .before .good .0 .0, used-within (v .2) (c .before .before .before .before .before .before .before .print .ensures .prints) (v .1) (sym (c .before .before .before .before .before .before .before .before .before .before .before .before .before .before .over .ensures [] [] []) ∙ not-true _ (c .before .before .before .before .before .before .before .before .before .before .before .before .before .if2 .taken)))
 
 loop-less : tie.Need-loop-less Inv-loop μ-loop
-loop-less c = let v = c .before .before .before .before .before .before .before .before .before .before .before .before .before .before .before .loop .inv in count-less (v .2) (c .before .before .before .before .before .before .before .print .ensures) (v .1) (sym (c .before .before .before .before .before .before .before .before .before .before .before .before .before .before .over .ensures [] [] []) ∙ not-true _ (c .before .before .before .before .before .before .before .before .before .before .before .before .before .if2 .taken)) (c .before .before .before .spend2 .ensures) (not-false _ (c .before .if3 .left))
+loop-less c = let v = c .before .before .before .before .before .before .before .before .before .before .before .before .before .before .before .loop .inv in count-less (v .2) (c .before .before .before .before .before .before .before .print .ensures .prints) (v .1) (sym (c .before .before .before .before .before .before .before .before .before .before .before .before .before .before .over .ensures [] [] []) ∙ not-true _ (c .before .before .before .before .before .before .before .before .before .before .before .before .before .if2 .taken)) (c .before .before .before .spend2 .ensures) (not-false _ (c .before .if3 .left))
 
 loop-again : tie.Need-loop-again Inv-loop μ-loop
-loop-again c = let v = c .before .before .before .before .before .before .before .before .before .before .before .before .before .before .before .loop .inv in (search needs, omega (arith, v .1, c .before .before .before .before .before .before .before .print .kept), count-turn (v .2) (c .before .before .before .before .before .before .before .print .ensures) (v .1) (sym (c .before .before .before .before .before .before .before .before .before .before .before .before .before .before .over .ensures [] [] []) ∙ not-true _ (c .before .before .before .before .before .before .before .before .before .before .before .before .before .if2 .taken)) (c .before .before .before .spend2 .ensures) (not-false _ (c .before .if3 .left)))
+loop-again c = let v = c .before .before .before .before .before .before .before .before .before .before .before .before .before .before .before .loop .inv in (search needs, omega (arith, v .1, c .before .before .before .before .before .before .before .print .kept), count-turn (v .2) (c .before .before .before .before .before .before .before .print .ensures .prints) (v .1) (sym (c .before .before .before .before .before .before .before .before .before .before .before .before .before .before .over .ensures [] [] []) ∙ not-true _ (c .before .before .before .before .before .before .before .before .before .before .before .before .before .if2 .taken)) (c .before .before .before .spend2 .ensures) (not-false _ (c .before .if3 .left)))
 
 returns-3 : tie.Need-returns-3 Inv-loop μ-loop
 returns-3 c = sym (le-leb _ _ (count-ends (c .before .before .loop .inv .2) (sym (c .before .over .ensures [] [] []) ∙ not-false _ (c .if2 .left))))

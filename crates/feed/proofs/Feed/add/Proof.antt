@@ -1,7 +1,7 @@
 use mathlib.Core.Path.{ap, _∙_}
 use Rattle.group.specs.declared.Table.{Table}
 use Rattle.feed.specs.Answers.{channelOf, fedOf}
-use Rattle.feed.proofs.Making.{makes-as}
+use Rattle.feed.proofs.Making.{does-as}
 use Rattle.feed.proofs.Staging.{is-taken, add-to-none}
 use borrow.Author.Needs.{needs}
 use Rattle.feed.proofs.Feed.add.Statement.{statement}
@@ -17,7 +17,7 @@ returns-2 c l =
     let a = c .before .before .before .before .before .before .before .before .before .before .before .before .args in
     let w = a .words .now in
     let k = a .whole .now in
-    makes-as
+    does-as
     (add-to-none (fedOf (a .self) l w k) (channelOf (a .self) w k) (a .identity) (a .priority) (c .before .before .before .before .before .before .before .before .before .servers-of .ensures) (c .before .before .before .before .before .before .before .before .of .ensures) (c .before .before .before .before .before .verdict .given .1))
     (c .before .before .stop .ensures w k l)
 

@@ -1,5 +1,5 @@
 use Rattle.feed.specs.Answers.{channelOf, fedOf}
-use Rattle.feed.proofs.Making.{makes-as}
+use Rattle.feed.proofs.Making.{does-as}
 use Rattle.feed.proofs.Staging.{add-so, add-not, added-table}
 use borrow.Author.Needs.{needs}
 use Rattle.feed.proofs.Feed.add_to.Statement.{statement}
@@ -15,7 +15,7 @@ returns c l =
     let a = c .before .before .before .before .before .before .before .before .before .args in
     let w = a .words .now in
     let k = a .whole .now in
-    makes-as
+    does-as
     (add-so (fedOf (a .self) l w k) (channelOf (a .self) w k) (a .identity) (a .priority) (c .before .before .before .before .before .before .before .before .before .pre .1) (c .before .before .before .before .before .before .before .add .ensures) (c .before .before .before .enum-told .given .1))
     (c .listed .ensures (a .out .now) l)
 
@@ -24,7 +24,7 @@ returns-2 c l =
     let a = c .before .before .before .before .before .before .before .before .before .before .before .args in
     let w = a .words .now in
     let k = a .whole .now in
-    makes-as
+    does-as
     (add-not (fedOf (a .self) l w k) (channelOf (a .self) w k) (a .identity) (a .priority) (c .before .before .before .before .before .before .before .before .before .before .before .pre .1) (c .before .before .before .before .before .before .before .before .before .add .ensures) (c .before .before .before .before .before .verdict .given .1))
     (c .before .before .stop .ensures w k l)
 

@@ -7,7 +7,7 @@ use Rattle.group.proofs.Made.{table-empty}
 use Rattle.day.specs.Day.{on, atServers}
 use Rattle.feeding.specs.Moves.{going}
 use Rattle.feed.specs.Answers.{fedOf}
-use Rattle.feed.proofs.Making.{makes-as}
+use Rattle.feed.proofs.Making.{does-as}
 use Rattle.feed.proofs.Staging.{period-is, period-taken}
 use borrow.Author.Needs.{needs}
 use Rattle.feed.proofs.Feed.first_line.Statement.{statement}
@@ -21,7 +21,7 @@ returns c l =
     let a = c .before .before .before .before .before .before .before .before .before .args in
     let q = c .before .before .before .before .before .before .before .before .before .pre in
     let p = c .before .before .before .before .before .before .of in
-    makes-as
+    does-as
     (ap₂ (λ (t : Table) (n : ℕ). going (fedOf (a .self) l (a .words .now) (a .whole .now)) [] (on atServers (fresh t n))) (c .before .before .before .before .before .before .before .empty .ensures)
     (period-is (q .1) (q .2) (p .result) (p .ensures) (c .before .before .before .before .p .given .1)))
     (c .listed .ensures (a .out .now) l)
