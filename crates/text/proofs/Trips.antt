@@ -130,7 +130,7 @@ pub number-writes-back : NumberWritesBack
 unfolding readNumber value
 number-writes-back lo hi n s e =
     let t = took (wellWritten s && (leb lo (valueFrom 0 s) && leb (valueFrom 0 s) hi)) (valueFrom 0 s) 2 e in
-    rw (← t .1) (written-value s (fst-true _ _ (t .0)))
+    ap digits (sym (t .1)) ∙ written-value s (fst-true _ _ (t .0))
 
 -- ---- both
 

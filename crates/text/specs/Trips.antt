@@ -1,5 +1,5 @@
--- Writing and reading undo each other. The contract of `write_number` has both laws (`Trips`, below); the proof
--- is `trips` of proofs/Trips.antt.
+-- Writing and reading undo each other. The contract of `write_number` has both laws (`Trips`,
+-- below); the proof is `trips` of proofs/Trips.antt.
 use mathlib.Core.List.{List, [], _∷_}
 use mathlib.Core.Path.{_≡_}
 use Prim.Native.Nat.{ℕ, _≤_}

@@ -1,5 +1,5 @@
--- The two round trips. The contract of `Timecode::label` has both laws (`Trips`, below); the proof is `trips` of
--- proofs/Trips.antt.
+-- The two round trips. The contract of `Timecode::label` has both laws (`Trips`, below); the proof
+-- is `trips` of proofs/Trips.antt.
 use mathlib.Core.List.{List, [], _∷_}
 use mathlib.Core.Path.{_≡_}
 use Prim.Native.Nat.{ℕ, _<_}
