@@ -15,9 +15,11 @@ use Rattle.lists.proofs.Parts.{here, later, split-here, split-later, split-some
 use Rattle.refusal.specs.Answer.{Answer, accepted, refused, inTurn}
 use Rattle.refusal.proofs.Answers.{not-both}
 use Rattle.text.specs.Words.{bytes}
+use Rattle.text.specs.Digits.{digits}
 use Rattle.text.specs.Number.{readNumber}
 use Rattle.text.specs.Line.{readLine, fields, field}
 use Rattle.text.proofs.Trips.{number-writes-back}
+use Rattle.heartbeat.specs.declared.Heartbeat.{Heartbeat}
 use Rattle.heartbeat.specs.Heartbeat.{readFields, readBody, readHeartbeat, lineWith}
 use Rattle.heartbeat.specs.Trips.{HeartbeatWritesBack, Trips}
 use Rattle.heartbeat.proofs.Trips.{heartbeat-reads-back}
@@ -123,6 +125,12 @@ line-is s e =
 
 -- ---- both trips
 
+fields-written :
+    (h : Heartbeat) (l : List (List ℕ)) →
+    digits (h .bs) ≡ getD l 0 [] → digits (h .priority) ≡ getD l 1 [] → digits (h .tiebreaker) ≡ getD l 2 [] → digits (h .reveal) ≡ getD l 3 [] →
+    lineWith h (h .reveal) ≡ between l ++ bytes "\n"
+fields-written h l bs priority tiebreaker reveal = rw (bs, priority, tiebreaker, reveal)
+
 pub heartbeat-writes-back : HeartbeatWritesBack
 unfolding readHeartbeat readBody readFields
 heartbeat-writes-back s h e =
@@ -132,15 +140,11 @@ heartbeat-writes-back s h e =
     let bs = field-taken 0 65535 (field body 0) _ (four .1) in
     let priority = field-taken 0 255 (field body 1) _ (bs .1) in
     let tiebreaker = field-taken 1 65535 (field body 2) _ (priority .1) in
-    let written : lineWith h (h .reveal) ≡ between (fields body) ++ bytes "\n" =
-        rw (
-          number-writes-back _ _ _ _ (bs .0),
-          number-writes-back _ _ _ _ (priority .0),
-          number-writes-back _ _ _ _ (tiebreaker .0),
-          number-writes-back _ _ _ _ (tiebreaker .1),
-        )
-    in
-    written
+    fields-written h (fields body)
+    (number-writes-back _ _ _ _ (bs .0))
+    (number-writes-back _ _ _ _ (priority .0))
+    (number-writes-back _ _ _ _ (tiebreaker .0))
+    (number-writes-back _ _ _ _ (tiebreaker .1))
     ∙ ap (λ (l : List ℕ). l ++ bytes "\n") (sym (four-joined (fields body) (eqb-true _ _ (four .0))) ∙ join-parts 9 body)
     ∙ line-is s (eqb-true _ _ (line .0))
 
