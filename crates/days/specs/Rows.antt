@@ -2,7 +2,7 @@
 use mathlib.Core.Bool.{Bool, true}
 use mathlib.Core.Path.{_≡_}
 use mathlib.Core.List.{List, [], _∷_}
-use Prim.Native.Nat.{ℕ, _<_}
+use Prim.Native.Nat.{ℕ, _+_, _<_}
 use lib.ListN.{length, getD}
 use Rattle.text.specs.Words.{bytes}
 use Rattle.timecode.specs.Read.{readTimecode}
@@ -65,3 +65,13 @@ rows =
 -- every row of the table holds
 abbrev pub WorkedDays : Type 0
 WorkedDays = (i : ℕ) → i < length rows → Says (getD rows i (day [] []))
+
+-- D1 to D11; D7, D8 and D9 have two rows each
+abbrev pub workedRows : ℕ
+workedRows = 11 + 3
+
+-- r is how many rows the table has, and each of them holds
+pub record Worked (r : ℕ) : Type 0 where
+  pub counted : r ≡ length rows
+  pub number : r ≡ workedRows
+  pub hold : WorkedDays

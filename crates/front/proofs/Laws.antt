@@ -24,7 +24,7 @@ use Rattle.roles.specs.Verbs.{verbHappens}
 use Rattle.roles.proofs.Table.{roles, role-at}
 use Rattle.front.specs.declared.Front.{Front}
 use Rattle.front.specs.Front.{goesOn, risen, hearing, timing, happens, withServer}
-use Rattle.front.specs.Laws.{hearings, FrameIsTheStep, RefusedBeginStays, RefusedVerbStays, NumbersTell}
+use Rattle.front.specs.Laws.{hearings, FrameIsTheStep, RefusedBeginStays, RefusedVerbStays, NumbersTell, Laws}
 use Rattle.server.specs.Hearing.{heardAll}
 
 -- the hearings of a front are those of its server, in the present frame
@@ -84,3 +84,8 @@ numbers-tell f g e =
       frame = frame i;
       period = record { frames = period i };
     }
+
+-- ---- all of them
+
+pub laws : Laws
+laws = record { frames = frame-is-the-step; begins = refused-begin-stays; verbs = refused-verb-stays; numbers = numbers-tell }

@@ -1,4 +1,5 @@
--- Laws of the front, as statements. proofs/Laws.antt proves them.
+-- Laws of the front. The contract of `Front::new` has them all (`Laws`, below); the proof is `laws` of
+-- proofs/Laws.antt.
 use mathlib.Core.Path.{_≡_}
 use mathlib.Core.List.{List, [], _∷_}
 use Prim.Native.Nat.{ℕ, _+_}
@@ -11,9 +12,10 @@ use Rattle.server.specs.Server.{cleared}
 use Rattle.server.specs.Hearing.{heardAll}
 use Rattle.server.specs.Timers.{timed}
 use Rattle.front.specs.declared.Front.{Front}
+use Rattle.front.specs.declared.FrontAnswer.{FrontAnswer}
 use Rattle.front.specs.declared.TimedNow.{TimedNow}
 use Rattle.front.specs.declared.ActedNow.{ActedNow}
-use Rattle.front.specs.Front.{frontNumbers, FrontBegins, hearing, FrontTicks, FrontActs}
+use Rattle.front.specs.Front.{frontNumbers, ofFront, takeFront, FrontBegins, hearing, FrontTicks, FrontActs}
 
 -- `hear` of each heartbeat, one after the other: the front after it
 unfoldable pub hearings : Front → List Heartbeat → Front
@@ -41,3 +43,16 @@ RefusedVerbStays =
 -- the numbers of a front tell the front: what `Front::new` answers leaves nothing of it open
 abbrev pub NumbersTell : Type 0
 NumbersTell = (f g : Front) → frontNumbers f ≡ frontNumbers g → f ≡ g
+
+-- ---- all of them
+
+pub record Laws : Type 0 where
+  pub frames : FrameIsTheStep
+  pub begins : RefusedBeginStays
+  pub verbs : RefusedVerbStays
+  pub numbers : NumbersTell
+
+-- the front of the server i with the priority p and the period n, or 2, and what holds of every front
+pub record FrontMade (i p n : ℕ) (r : FrontAnswer) : Type 0 where
+  pub answer : ofFront r ≡ takeFront i p n
+  pub laws : Laws

@@ -3,3 +3,4 @@ pub mod Fields
 pub mod Line
 pub mod Rows
 pub mod Trips
+pub mod Back

@@ -31,12 +31,18 @@ abbrev pub isSet : ℕ → Bool
 isSet n = not (eqb n 0)
 
 -- "BS 0..65,535"
+abbrev pub greatestBS : ℕ
+greatestBS = 65535
+
 abbrev pub readBS : List ℕ → Answer
-readBS s = readNumber 0 65535 s
+readBS s = readNumber 0 greatestBS s
 
 -- "Reveal 0..255"
+abbrev pub greatestReveal : ℕ
+greatestReveal = 255
+
 abbrev pub readReveal : List ℕ → Answer
-readReveal s = readNumber 0 255 s
+readReveal s = readNumber 0 greatestReveal s
 
 -- "BS .., Priority .., TieBreaker .., Reveal ..", "Fields are tested left to right for 2". The TieBreaker is an identity
 unfoldable pub readFields : List ℕ → Answer
@@ -58,9 +64,11 @@ revealWritten n = choose (isSet n) 1 0
 abbrev pub writable : Heartbeat → Bool
 writable h = not (eqb (h .tiebreaker) 0)
 
--- "A heartbeat line: BS .., Priority .., TieBreaker .., Reveal", "parted by one tab", with a line feed at its end
+-- "A heartbeat line: BS .., Priority .., TieBreaker .., Reveal", "parted by one tab", with a line feed
+-- at its end; v is its Reveal
+abbrev pub lineWith : Heartbeat → ℕ → List ℕ
+lineWith h v =
+    digits (h .bs) ++ bytes "\t" ++ digits (h .priority) ++ bytes "\t" ++ digits (h .tiebreaker) ++ bytes "\t" ++ digits v ++ bytes "\n"
+
 unfoldable pub heartbeatLine : Heartbeat → List ℕ
-heartbeatLine h =
-    digits (h .bs) ++ bytes "\t" ++ digits (h .priority) ++ bytes "\t" ++ digits (h .tiebreaker) ++ bytes "\t"
-    ++ digits (revealWritten (h .reveal))
-    ++ bytes "\n"
+heartbeatLine h = lineWith h (revealWritten (h .reveal))

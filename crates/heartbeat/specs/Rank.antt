@@ -9,11 +9,20 @@ use Rattle.text.specs.Number.{readNumber}
 use Rattle.heartbeat.specs.declared.Rank.{Rank}
 
 -- "Each has an identity 1..65,535 .. and a priority 0..255."
+abbrev pub leastIdentity : ℕ
+leastIdentity = 1
+
+abbrev pub greatestIdentity : ℕ
+greatestIdentity = 65535
+
+abbrev pub greatestPriority : ℕ
+greatestPriority = 255
+
 abbrev pub readIdentity : List ℕ → Answer
-readIdentity s = readNumber 1 65535 s
+readIdentity s = readNumber leastIdentity greatestIdentity s
 
 abbrev pub readPriority : List ℕ → Answer
-readPriority s = readNumber 0 255 s
+readPriority s = readNumber 0 greatestPriority s
 
 -- a is higher than b: "Of two servers the one with greater priority is higher; with equal priority, the one with greater identity."
 unfoldable pub higher : Rank → Rank → Bool

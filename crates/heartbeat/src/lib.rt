@@ -10,10 +10,11 @@ ghost use lib.ListN.{length};
 ghost use Rattle.refusal.specs.Answer.{accepted, inTurn};
 ghost use Rattle.text.specs.Number.{ofNumber};
 ghost use Rattle.text.specs.Line.{field};
-ghost use Rattle.text.specs.Write.{Writes, WritesIf};
+ghost use Rattle.text.specs.Write.{Writes};
 ghost use Rattle.text.specs.Steps.{Pieces};
 ghost use Rattle.heartbeat.specs.Rank.{readIdentity, readPriority, higher};
-ghost use Rattle.heartbeat.specs.Heartbeat.{ofHeartbeat, sender, isSet, readReveal, readFields, readBody, readHeartbeat, revealWritten, writable, heartbeatLine};
+ghost use Rattle.heartbeat.specs.Heartbeat.{ofHeartbeat, sender, isSet, readReveal, readFields, readBody, readHeartbeat, revealWritten, heartbeatLine};
+ghost use Rattle.heartbeat.specs.Trips.{WritesHeartbeat};
 
 // What makes one server higher than another: its priority, then its identity.
 pub struct Rank {
@@ -203,7 +204,7 @@ impl Heartbeat {
 
     // The line into a lent slice: 2 for a TieBreaker of 0, then 9.
     pub fn write(self, out: &mut [u8], at: usize) -> Written
-        ensures { λ r. ⌜ WritesIf (writable self) 2 (now (out .entry)) at (heartbeatLine self) r (now (out .exit)) ⌝ }
+        ensures { λ r. ⌜ WritesHeartbeat self (now (out .entry)) at r (now (out .exit)) ⌝ }
     {
         if self.tiebreaker == 0 {
             Written::Refused(Refusal::Number)

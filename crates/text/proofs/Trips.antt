@@ -14,7 +14,7 @@ use Rattle.refusal.specs.Answer.{accepted}
 use Rattle.refusal.proofs.Answers.{took}
 use Rattle.text.specs.Digits.{lastDigit, digits}
 use Rattle.text.specs.Number.{isDigit, valueFrom, value, wellWritten, readNumber}
-use Rattle.text.specs.Trips.{NumberReadsBack, NumberWritesBack}
+use Rattle.text.specs.Trips.{NumberReadsBack, NumberWritesBack, Trips}
 use Rattle.text.proofs.Digits.{digits-one, digits-more, digit-passes, digit-least, digit-most}
 
 -- ---- written, then read
@@ -130,4 +130,9 @@ pub number-writes-back : NumberWritesBack
 unfolding readNumber value
 number-writes-back lo hi n s e =
     let t = took (wellWritten s && (leb lo (valueFrom 0 s) && leb (valueFrom 0 s) hi)) (valueFrom 0 s) 2 e in
-    rw (← t .1) (written-value s (fst-true _ _ (t .0)))
+    ap digits (sym (t .1)) ∙ written-value s (fst-true _ _ (t .0))
+
+-- ---- both
+
+pub trips : Trips
+trips = record { read = number-reads-back; written = number-writes-back }

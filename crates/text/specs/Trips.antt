@@ -1,4 +1,5 @@
--- Writing and reading undo each other, as statements. proofs/Trips.antt proves them.
+-- Writing and reading undo each other. The contract of `write_number` has both laws (`Trips`,
+-- below); the proof is `trips` of proofs/Trips.antt.
 use mathlib.Core.List.{List, [], _∷_}
 use mathlib.Core.Path.{_≡_}
 use Prim.Native.Nat.{ℕ, _≤_}
@@ -13,3 +14,7 @@ NumberReadsBack = (lo hi n : ℕ) → lo ≤ n → n ≤ hi → readNumber lo hi
 -- What is accepted as a number is what that number is written as, byte for byte.
 abbrev pub NumberWritesBack : Type 0
 NumberWritesBack = (lo hi n : ℕ) (s : List ℕ) → readNumber lo hi s ≡ accepted (n ∷ []) → digits n ≡ s
+
+pub record Trips : Type 0 where
+  pub read : NumberReadsBack
+  pub written : NumberWritesBack

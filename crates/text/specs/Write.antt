@@ -10,6 +10,8 @@ use Rattle.lists.specs.Splice.{splice, fits}
 use Rattle.refusal.specs.Answer.{Answer, accepted, refused, numberOf}
 use Rattle.text.specs.declared.Written.{Written}
 use Rattle.text.specs.declared.Written.the-variants.{To, Refused}
+use Rattle.text.specs.Digits.{digits}
+use Rattle.text.specs.Trips.{Trips}
 
 -- the number and the values of a writer's answer: where it is accepted, the place after what it wrote
 abbrev pub ofWritten : Written → Answer
@@ -33,6 +35,11 @@ wrote d at w = choose (fits d at w) (splice d at w) d
 pub record Writes (d : List ℕ) (at : ℕ) (w : List ℕ) (r : Written) (d′ : List ℕ) : Type 0 where
   pub answer : ofWritten r ≡ writing d at w
   pub slice : d′ ≡ wrote d at w
+
+-- A call that writes the digits of n, and what holds of all numbers written and read.
+pub record WritesNumber (d : List ℕ) (at n : ℕ) (r : Written) (d′ : List ℕ) : Type 0 where
+  pub writes : Writes d at (digits n) r d′
+  pub trips : Trips
 
 -- A call that is refused with the number k unless ok holds, and otherwise writes w as above.
 pub record WritesIf (ok : Bool) (k : ℕ) (d : List ℕ) (at : ℕ) (w : List ℕ) (r : Written) (d′ : List ℕ) : Type 0 where

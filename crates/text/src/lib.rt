@@ -8,7 +8,7 @@ ghost use Rattle.lists.specs.Lists.{same, upTo};
 ghost use Rattle.text.specs.Digits.{digits};
 ghost use Rattle.text.specs.Number.{ofNumber, readNumber};
 ghost use Rattle.text.specs.Line.{ofLine, readLine, fields, field, afterField};
-ghost use Rattle.text.specs.Write.{roomFor, Writes, WritesOn};
+ghost use Rattle.text.specs.Write.{roomFor, Writes, WritesNumber, WritesOn};
 ghost use Rattle.text.specs.Steps.{badStart, readFrom, readDigit, atLeast};
 
 // A number read, or 2.
@@ -246,7 +246,7 @@ fn put_digits(out: &mut [u8], at: usize, n: u64) -> usize
 
 // The digits of n into the slice, or 9 and no byte changed.
 pub fn write_number(out: &mut [u8], at: usize, n: u64) -> Written
-    ensures { λ r. ⌜ Writes (now (out .entry)) at (digits n) r (now (out .exit)) ⌝ }
+    ensures { λ r. ⌜ WritesNumber (now (out .entry)) at n r (now (out .exit)) ⌝ }
 {
     if digits_fit(out.len(), at, n) {
         Written::To(put_digits(out, at, n))

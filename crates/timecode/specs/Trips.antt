@@ -1,4 +1,5 @@
--- The two round trips, as statements. proofs/Trips.antt proves them.
+-- The two round trips. The contract of `Timecode::label` has both laws (`Trips`, below); the proof
+-- is `trips` of proofs/Trips.antt.
 use mathlib.Core.List.{List, [], _∷_}
 use mathlib.Core.Path.{_≡_}
 use Prim.Native.Nat.{ℕ, _<_}
@@ -13,3 +14,12 @@ FrameReadsBack = (t : ℕ) → t < dayLength → readTimecode (label t) ≡ acce
 -- label to frame to label, for every label accepted; and its frame is one of the day
 abbrev pub LabelWritesBack : Type 0
 LabelWritesBack = (s : List ℕ) (t : ℕ) → readTimecode s ≡ accepted (t ∷ []) → (label t ≡ s) × (t < dayLength)
+
+pub record Trips : Type 0 where
+  pub frames : FrameReadsBack
+  pub labels : LabelWritesBack
+
+-- the label of the frame t, and what holds of all labels written and read
+pub record Labels (t : ℕ) (r : List ℕ) : Type 0 where
+  pub label : r ≡ label t
+  pub trips : Trips

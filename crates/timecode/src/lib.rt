@@ -8,6 +8,7 @@ ghost use Rattle.text.specs.Number.{isDigit};
 ghost use Rattle.text.specs.Write.{WritesIf};
 ghost use Rattle.timecode.specs.Label.{label};
 ghost use Rattle.timecode.specs.Read.{ofTimecode, inDay, takeFrame, twoAt, twoBelow, isLabel, frameOf, readTimecode};
+ghost use Rattle.timecode.specs.Trips.{Labels};
 ghost use Rattle.timecode.specs.Steps.{hasColons, inRange, Pair, Digits, IsLabel};
 
 // A frame of the day, by its number. `Timecode::of_frame` and `Timecode::read` make it; no other
@@ -86,7 +87,7 @@ impl Timecode {
 
     // Its label.
     pub fn label(self) -> [u8; 11]
-        ensures { λ r. ⌜ r ≡ label (self .frame) ⌝ }
+        ensures { λ r. ⌜ Labels (self .frame) r ⌝ }
     {
         Timecode::label_of(self.frame)
     }

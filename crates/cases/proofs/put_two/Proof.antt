@@ -8,7 +8,7 @@ returns : tie.Need-returns
 returns c =
     let a = c .before .before .before .before .before .before .before .before .before .before .before .before .before .before .args in
     rw (← two-pieces (a .m) (a .n))
-    (chain (chain (first-piece (c .before .before .before .before .before .before .before .before .before .before .before .write-number .ensures)) (c .before .before .before .before .before .before .then-bytes .ensures)) (c .before .before .then-number .ensures))
+    (chain (chain (first-piece (c .before .before .before .before .before .before .before .before .before .before .before .write-number .ensures .writes)) (c .before .before .before .before .before .before .then-bytes .ensures)) (c .before .before .then-number .ensures))
 
 same-length : tie.Need-same-length
 same-length c = returns c .kept

@@ -19,7 +19,7 @@ returns c =
     (chain
     (chain
     (chain
-    (chain (chain (chain (first-piece (r1 .write-number .ensures)) (r2 .then-bytes .ensures)) (r3 .then-number .ensures)) (r4 .then-bytes2 .ensures))
+    (chain (chain (chain (first-piece (r1 .write-number .ensures .writes)) (r2 .then-bytes .ensures)) (r3 .then-number .ensures)) (r4 .then-bytes2 .ensures))
     (r5 .then-number2 .ensures))
     (r6 .then-bytes3 .ensures))
     (rw (r7 .before .reveal-written .ensures) at (r7 .then-number3 .ensures)))

@@ -6,7 +6,7 @@ use Rattle.text.proofs.Written.then_number.Tie as tie
 returns : tie.Need-returns
 returns c =
     rw (c .before .before .before .before .before .self .given .1)
-    (record { answer = c .before .before .write-number .ensures .answer; slice = c .before .before .write-number .ensures .slice })
+    (record { answer = c .before .before .write-number .ensures .writes .answer; slice = c .before .before .write-number .ensures .writes .slice })
 
 returns-2 : tie.Need-returns-2
 returns-2 c = rw (c .before .self2 .given .1) (record { answer = refl; slice = refl })

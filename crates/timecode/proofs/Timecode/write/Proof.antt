@@ -9,7 +9,7 @@ returns : tie.Need-returns
 returns c =
     goes-on
     (lt-ltb _ _ (c .before .before .before .before .before .before .if1 .taken))
-    (rw (c .before .before .before .before .before .label .ensures) at (c .before .before .write-bytes .ensures))
+    (rw (c .before .before .before .before .before .label .ensures .label) at (c .before .before .write-bytes .ensures))
 
 returns-2 : tie.Need-returns-2
 returns-2 c = refuses-first Timecode (le-ltb _ _ (c .if1 .left))
