@@ -1,5 +1,5 @@
--- Laws of the front. The contract of `Front::new` has them all (`Laws`, below); the proof is `laws` of
--- proofs/Laws.antt.
+-- Laws of the front. The contract of `Front::new` has them all (`Laws`, below); the proof is `laws`
+-- of proofs/Laws.antt.
 use mathlib.Core.Path.{_≡_}
 use mathlib.Core.List.{List, [], _∷_}
 use Prim.Native.Nat.{ℕ, _+_}
@@ -52,7 +52,7 @@ pub record Laws : Type 0 where
   pub verbs : RefusedVerbStays
   pub numbers : NumbersTell
 
--- the front of the server i with the priority p and the period n, or 2, and what holds of every front
+-- the front of the server i with the priority p and the period n, or 2; and what holds of all fronts
 pub record FrontMade (i p n : ℕ) (r : FrontAnswer) : Type 0 where
   pub answer : ofFront r ≡ takeFront i p n
   pub laws : Laws

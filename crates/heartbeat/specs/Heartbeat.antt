@@ -64,11 +64,12 @@ revealWritten n = choose (isSet n) 1 0
 abbrev pub writable : Heartbeat → Bool
 writable h = not (eqb (h .tiebreaker) 0)
 
--- "A heartbeat line: BS .., Priority .., TieBreaker .., Reveal", "parted by one tab", with a line feed
--- at its end; v is its Reveal
+-- "A heartbeat line: BS .., Priority .., TieBreaker .., Reveal", "parted by one tab", with a line
+-- feed at its end; v is its Reveal
 abbrev pub lineWith : Heartbeat → ℕ → List ℕ
 lineWith h v =
     digits (h .bs) ++ bytes "\t" ++ digits (h .priority) ++ bytes "\t" ++ digits (h .tiebreaker) ++ bytes "\t" ++ digits v ++ bytes "\n"
 
+-- the line of h as it is written
 unfoldable pub heartbeatLine : Heartbeat → List ℕ
 heartbeatLine h = lineWith h (revealWritten (h .reveal))

@@ -26,6 +26,7 @@ HeartbeatReadsBack =
 abbrev pub HeartbeatWritesBack : Type 0
 HeartbeatWritesBack = (s : List ℕ) (h : Heartbeat) → readHeartbeat s ≡ fieldsWith h (h .reveal) → lineWith h (h .reveal) ≡ s
 
+-- both trips of a heartbeat
 pub record Trips : Type 0 where
   pub read : HeartbeatReadsBack
   pub written : HeartbeatWritesBack

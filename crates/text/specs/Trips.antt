@@ -15,6 +15,7 @@ NumberReadsBack = (lo hi n : ℕ) → lo ≤ n → n ≤ hi → readNumber lo hi
 abbrev pub NumberWritesBack : Type 0
 NumberWritesBack = (lo hi n : ℕ) (s : List ℕ) → readNumber lo hi s ≡ accepted (n ∷ []) → digits n ≡ s
 
+-- both trips of a number
 pub record Trips : Type 0 where
   pub read : NumberReadsBack
   pub written : NumberWritesBack

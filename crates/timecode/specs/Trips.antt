@@ -15,6 +15,7 @@ FrameReadsBack = (t : ℕ) → t < dayLength → readTimecode (label t) ≡ acce
 abbrev pub LabelWritesBack : Type 0
 LabelWritesBack = (s : List ℕ) (t : ℕ) → readTimecode s ≡ accepted (t ∷ []) → (label t ≡ s) × (t < dayLength)
 
+-- both trips of a timecode
 pub record Trips : Type 0 where
   pub frames : FrameReadsBack
   pub labels : LabelWritesBack
