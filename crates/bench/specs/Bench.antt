@@ -17,7 +17,8 @@ use Rattle.group.specs.Calls.{channelAfter, numbersOf}
 use Rattle.calls.specs.Encoding.{verbAt}
 use Rattle.calls.specs.Running.{bytesAfter, listed, listRefusal}
 
--- the table t with the servers of a list, an identity and a priority each, of which the lowest 16 and 8 bits count; one that is refused is left out
+-- the table t with the servers of a list, an identity and a priority each, of which the lowest 16
+-- and 8 bits count; one that is refused is left out
 unfoldable pub tableFrom : Table → List ℕ → Table
 tableFrom t [] = t
 tableFrom t (i ∷ []) = t
@@ -26,8 +27,8 @@ tableFrom t (i ∷ p ∷ l) = tableFrom (added t (i % 65536) (p % 256)) l
 abbrev pub tableOf : List ℕ → Table
 tableOf l = tableFrom empty l
 
--- the step of the number n with a slice of so many bytes: a verb, or as many advances towards a frame as fit. It is for measuring: no time is tested, and no
--- number of a refusal is kept
+-- the step of the number n with a slice of so many bytes: a verb, or as many advances towards a
+-- frame as fit. It is for measuring: no time is tested, and no number of a refusal is kept
 unfoldable pub stepOf : State → ℕ → ℕ → Outcome
 stepOf c n room =
     choose (ltb (n % 10) 8)
@@ -66,7 +67,8 @@ pub record DayEnds (servers : List ℕ) (n : ℕ) (ns d : List ℕ) (r : ℕ) (d
   pub frame : r ≡ stateAfter (opened servers n) ns d .frame
   pub slice : d′ ≡ sliceAfter (opened servers n) ns d
 
--- the calls that the numbers ks encode, on the fresh channel of the servers: the frame that they end in, what each gets, and the bytes
+-- the calls that the numbers ks encode, on the fresh channel of the servers: the frame that they
+-- end in, what each gets, and the bytes
 pub record CallsEnd (servers : List ℕ) (n : ℕ) (ks d e : List ℕ) (r : ℕ) (d′ e′ : List ℕ) : Type 0 where
   pub frame :
       r ≡ choose (eqb (listRefusal (tableOf servers) n ks d e) 0) (channelAfter (fresh (tableOf servers) n) (listed (tableOf servers) n ks d e)) noChannel .frame

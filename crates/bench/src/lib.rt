@@ -28,7 +28,8 @@ fn table_of(servers: &[u64]) -> Table
     table
 }
 
-// A verb, or the advance towards a time, by its number, in place; it is lent the whole slice. The frame afterwards.
+// A verb, or the advance towards a time, by its number, in place; it is lent the whole slice. The
+// frame afterwards.
 fn one(
     words: &mut Packed,
     whole: &mut Links,
@@ -96,7 +97,8 @@ pub extern "C" fn bench_day(servers: &[u64], period: u32, steps: &[u64], out: &m
     day(&mut words, &mut whole, p, state.frame, steps, out)
 }
 
-// Single calls, one after the other, on the fresh channel of the servers by value: the frame that they end in.
+// Single calls, one after the other, on the fresh channel of the servers by value: the frame that
+// they end in.
 #[no_mangle]
 pub extern "C" fn bench_calls(
     servers: &[u64],

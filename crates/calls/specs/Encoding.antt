@@ -21,7 +21,8 @@ verbAt k =
     (choose (eqb k 5) Restart
     (choose (eqb k 6) Cut Mend))))))
 
--- The first number of a call is 10 × what it is about + its kind: the kinds 0 to 7 are the verbs, 8 is the advance by one frame, 9 that to a time
+-- The first number of a call is 10 × what it is about + its kind: the kinds 0 to 7 are the verbs, 8
+-- is the advance by one frame, 9 that to a time
 abbrev pub kinds : ℕ
 kinds = 10
 
@@ -43,8 +44,9 @@ callOf n d =
 abbrev pub lesser : ℕ → ℕ → ℕ
 lesser m n = choose (ltb m n) m n
 
--- the list of calls that a list of numbers encodes, where the lent slice has n bytes: the second number of a call is the length of its slice. What
--- stands in the slice before a call does not change what the call does. A last number without its second is no call
+-- the list of calls that a list of numbers encodes, where the lent slice has n bytes: the second
+-- number of a call is the length of its slice. What stands in the slice before a call does not
+-- change what the call does. A last number without its second is no call
 unfoldable pub callsOf : ℕ → List ℕ → List Call
 callsOf n [] = []
 callsOf n (k ∷ []) = []
@@ -52,20 +54,23 @@ callsOf n (k ∷ m ∷ ks) = callOf k (replicate (lesser m n) 0) ∷ callsOf n k
 
 -- ---- which lists of calls have an encoding
 
--- a call whose identities are 0 to 65,535, whose time is at most 4,294,967,295, and whose slice has at most n bytes: by their types the calls of the
--- crate channel have no greater identities and times
+-- a call whose identities are 0 to 65,535, whose time is at most 4,294,967,295, and whose slice has
+-- at most n bytes: by their types the calls of the crate channel have no greater identities and
+-- times
 abbrev pub Encodable : ℕ → Call → Type 0
 Encodable n (verb v a b d) = (a < identities) × (b < identities) × (length d ≤ n)
 Encodable n (advance d) = length d ≤ n
 Encodable n (advanceTo t d) = (t < times) × (length d ≤ n)
 
--- numbers, each of 64 bits, encode the calls ks, where the lent slice has n bytes: on every channel the same numbers come back, and the same channel
+-- numbers, each of 64 bits, encode the calls ks, where the lent slice has n bytes: on every channel
+-- the same numbers come back, and the same channel
 pub record Encodes (n : ℕ) (ks : List Call) : Type 0 where
   pub code : List ℕ
   pub short : (i : ℕ) → getD code i 0 < 2 ^ 64
   pub numbers : (c : State) → numbersOf c (callsOf n code) ≡ numbersOf c ks
   pub channel : (c : State) → channelAfter c (callsOf n code) ≡ channelAfter c ks
 
--- every list of such calls has an encoding, where the lent slice has n bytes, below 2 ^ 64. The proof is in proofs/Encoded.antt
+-- every list of such calls has an encoding, where the lent slice has n bytes, below 2 ^ 64. The
+-- proof is in proofs/Encoded.antt
 abbrev pub EveryListEncodes : Type 0
 EveryListEncodes = (n : ℕ) (ks : List Call) → n < 2 ^ 64 → ((k : Call) → List·Memᴰ k ks → Encodable n k) → Encodes n ks

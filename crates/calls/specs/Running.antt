@@ -25,15 +25,17 @@ bytesAfter c d [] = d
 bytesAfter c d (k ∷ []) = d
 bytesAfter c d (k ∷ m ∷ ks) = let call = callOf k (take m d) in bytesAfter (callChannel c call) (callSlice c call ++ drop m d) ks
 
--- "Its first call gets a fresh channel, with any table and P that are not refused. Each later call gets the channel that the call before it handed
--- back": the calls that the numbers ks encode, each lent the first bytes of d, on the fresh channel of the table t with the period n. What each call gets,
--- 0 where it is accepted, goes to e
+-- "Its first call gets a fresh channel, with any table and P that are not refused. Each later call
+-- gets the channel that the call before it handed back": the calls that the numbers ks encode, each
+-- lent the first bytes of d, on the fresh channel of the table t with the period n. What each call
+-- gets, 0 where it is accepted, goes to e
 module _ (t : Table) (n : ℕ) (ks d e : List ℕ) where
   abbrev pub listed : List Call
   listed = callsOf (length d) ks
 
-  -- what the list as a whole gets: 2, 6 or 7 where no channel is opened, 9 where e has fewer places than there are calls. Then no call is made,
-  -- and `noChannel` is handed back, on which document 01 is silent
+  -- what the list as a whole gets: 2, 6 or 7 where no channel is opened, 9 where e has fewer places
+  -- than there are calls. Then no call is made, and `noChannel` is handed back, on which document
+  -- 01 is silent
   unfoldable pub listRefusal : ℕ
   listRefusal = choose (eqb (freshRefusal t n) 0) (choose (leb (length listed) (length e)) 0 9) (freshRefusal t n)
 
@@ -42,7 +44,8 @@ module _ (t : Table) (n : ℕ) (ks d e : List ℕ) where
     pub channel : state (r .channel) ≡ choose (eqb listRefusal 0) (channelAfter (fresh t n) listed) noChannel
     pub numbers : e′ ≡ choose (eqb listRefusal 0) (splice e 0 (numbersOf (fresh t n) listed)) e
     pub bytes : d′ ≡ choose (eqb listRefusal 0) (bytesAfter (fresh t n) d ks) d
-    -- every list of calls with identities up to 65,535, times up to 4,294,967,295 and slices no longer than the one lent here has such numbers
+    -- every list of calls with identities up to 65,535, times up to 4,294,967,295 and slices no
+    -- longer than the one lent here has such numbers
     pub encodes : EveryListEncodes
     -- demand 3, of the channel that the list ends with
     pub settles :

@@ -115,8 +115,9 @@ fn refused(k: Refusal) -> Ended
     }
 }
 
-// The calls that the numbers encode, two a call, on the fresh channel of the table; each call is lent the first bytes of `out`, and what it gets
-// goes to `numbers`. The list itself gets 2, 6 or 7 where no channel is opened, and 9 where `numbers` is too short; then no call is made.
+// The calls that the numbers encode, two a call, on the fresh channel of the table; each call is
+// lent the first bytes of `out`, and what it gets goes to `numbers`. The list itself gets 2, 6 or 7
+// where no channel is opened, and 9 where `numbers` is too short; then no call is made.
 pub fn run_list(
     table: Table,
     period: u32,

@@ -63,7 +63,8 @@ two m n = digits m ++ (bytes "\t" ++ digits n)
 abbrev pub tableLine : ℕ → List Server → List ℕ
 tableLine n l = two n (counted l) ++ bytes "\n"
 
--- the answer to a call, before what it wrote: its number, the bytes written, those kept, the frame, and the roles
+-- the answer to a call, before what it wrote: its number, the bytes written, those kept, the frame,
+-- and the roles
 abbrev pub counts : ℕ → ℕ → ℕ → ℕ → List ℕ
 counts n w k t = two n w ++ (bytes "\t" ++ (digits k ++ (bytes "\t" ++ (digits t ++ bytes "\t"))))
 

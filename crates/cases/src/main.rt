@@ -1,5 +1,5 @@
-// Makes the calls of the file `lists` and prints what they answer, for comparison with the model's answers. A line of the file has five
-// numbers, parted by tabs:
+// Makes the calls of the file `lists` and prints what they answer, for comparison with the model's
+// answers. A line of the file has five numbers, parted by tabs:
 //   0 0 0 0 0                      a new empty table
 //   1 IDENTITY PRIORITY 0 0        one more server in it
 //   2 PERIOD 0 0 0                 its fresh channel
@@ -7,8 +7,9 @@
 //   4 0 0 0 LENGTH                 an advance by one frame
 //   5 TIME 0 0 LENGTH              an advance to a time
 //   6 IDENTITY NUMBER 0 LENGTH     the sheet's line of a refusal
-// LENGTH is that of the lent slice. The answer to 1 and 2 is a number and how many servers the table has; to the calls a number, how many
-// bytes were written, how many bytes after them are as before, the frame, a digit for the role of each server, and then what was written.
+// LENGTH is that of the lent slice. The answer to 1 and 2 is a number and how many servers the table
+// has; to the calls a number, how many bytes were written, how many bytes after them are as before,
+// the frame, a digit for the role of each server, and then what was written.
 use channel::Answer;
 use channel::Channel;
 use group::Servers;

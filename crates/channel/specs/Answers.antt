@@ -1,4 +1,5 @@
--- What the calls of a channel answer: what is said of its state, over the struct that has the calls.
+-- What the calls of a channel answer: what is said of its state, over the struct that has the
+-- calls.
 use mathlib.Core.Path.{_≡_}
 use mathlib.Core.List.{List}
 use Prim.Native.Nat.{ℕ, _-_}
@@ -21,13 +22,14 @@ use Rattle.channel.specs.declared.Within.{Within}
 abbrev pub state : Channel → State
 state c = c .state
 
--- the fresh channel of the table t with the period n, or `noChannel` where it is refused, on which document 01 is silent
+-- the fresh channel of the table t with the period n, or `noChannel` where it is refused, on which
+-- document 01 is silent
 pub record Opens (t : Table) (n : ℕ) (r : Opened) : Type 0 where
   pub number : ofVerdict (r .verdict) ≡ freshRefusal t n
   pub channel : state (r .channel) ≡ choose (eqb (freshRefusal t n) 0) (fresh t n) noChannel
 
--- a listed call on the channel c with the lent slice d: its answer, and the slice afterwards. (`write_refused`, which changes no channel, hands none back and is not said
--- by this.)
+-- a listed call on the channel c with the lent slice d: its answer, and the slice afterwards.
+-- (`write_refused`, which changes no channel, hands none back and is not said by this.)
 pub record Answers (c : Channel) (o : Outcome) (d : List ℕ) (r : Answer) (d′ : List ℕ) : Type 0 where
   pub gives : Gives (state c) o d (r .verdict) (r .written) (state (r .channel)) d′
   -- "Any of them returns its number and the same channel"

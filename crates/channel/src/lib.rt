@@ -1,4 +1,5 @@
-// A channel and its calls: the fresh channel, the eight verbs, the two advances, the advance within a slice, and the line of a refusal.
+// A channel and its calls: the fresh channel, the eight verbs, the two advances, the advance within
+// a slice, and the line of a refusal.
 use group::Links;
 use group::Servers;
 use group::State;
@@ -280,7 +281,8 @@ impl Channel {
         }
     }
 
-    // As many single advances towards a time as fit, and how many they are: none of the listed calls. 3, 11; 9 where not even one fits.
+    // As many single advances towards a time as fit, and how many they are: none of the listed
+    // calls. 3, 11; 9 where not even one fits.
     pub fn advance_within(self, time: u32, out: &mut [u8]) -> Within
         ensures { λ r. ⌜ AnswersWithin self (withinOutcome (state self) time (length (now (out .entry)))) (now (out .entry)) r (now (out .exit)) ⌝ }
     {
@@ -297,7 +299,8 @@ impl Channel {
 // ---- verbs
 
 impl Channel {
-    // Whether the table has a verb's identities, which differ; the second counts only where the verb has one. It has no 0.
+    // Whether the table has a verb's identities, which differ; the second counts only where the
+    // verb has one. It has no 0.
     pub fn knows(self, verb: Verb, a: u16, b: u16) -> bool
         ensures { λ r. ⌜ r ≡ known (state self) verb a b ⌝ }
     {

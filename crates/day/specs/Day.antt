@@ -36,7 +36,8 @@ on g c = record { stage = g; channel = c }
 abbrev pub tableOf : State → Table
 tableOf c = record { servers = c .servers }
 
--- "A day: `period P`; one or more `server ..`; entries ..; `end time` .. is last". "4. A line out of its place"
+-- "A day: `period P`; one or more `server ..`; entries ..; `end time` .. is last". "4. A line out
+-- of its place"
 abbrev pub periodEffect : Stage → ℕ → Effect
 periodEffect atPeriod p = go [] (on atServers (fresh empty p))
 periodEffect atServers p = stop 4
@@ -55,13 +56,14 @@ serverEffect atServers c i p = addEffect c i p
 serverEffect atEntries c i p = stop 4
 serverEffect atClose c i p = stop 4
 
--- "A state refusal prints with the present time and the entry's first identity (identity 0 for `end`) and the day goes on"
+-- "A state refusal prints with the present time and the entry's first identity (identity 0 for
+-- `end`) and the day goes on"
 abbrev pub refusal : State → ℕ → ℕ → List ℕ
 refusal c i n = line (c .frame) i (refusedWord n)
 
--- the entry's own call, on the channel that has come to its time: "12 to 15 after it". "In a day the
--- refused call is the entry's own: before 12 to 15 the advance to its time is a call by itself and
--- stands, and the sheet line of a refusal is written by a call after it."
+-- the entry's own call, on the channel that has come to its time: "12 to 15 after it". "In a day
+-- the refused call is the entry's own: before 12 to 15 the advance to its time is a call by itself
+-- and stands, and the sheet line of a refusal is written by a call after it."
 unfoldable pub callEffect : List ℕ → State → Verb → ℕ → ℕ → Effect
 callEffect w c v a b =
     let o = verbOutcome c v a b in
@@ -70,8 +72,8 @@ callEffect w c v a b =
       | false ↦ go (w ++ refusal c a (o .number)) (on atEntries c)
     ]
 
--- 8 is an input refusal, and such a line "advances nothing"; "11 is tested before that advance"; "Before an entry it advances to the
--- entry's time"
+-- 8 is an input refusal, and such a line "advances nothing"; "11 is tested before that advance";
+-- "Before an entry it advances to the entry's time"
 unfoldable pub entryEffect : State → ℕ → Verb → ℕ → ℕ → Effect
 entryEffect c t v a b =
     elim (known c v a b) [
@@ -90,8 +92,8 @@ endEffect c t =
       | false ↦ go (linesBy (t - c .frame) c) (on atClose (advancedBy (t - c .frame) c))
     ]
 
--- "(but an entry or `end` straight after the lines before the servers is 6)"; "7 .. tested when entries or `end` begin". The period was tested
--- when it was read
+-- "(but an entry or `end` straight after the lines before the servers is 6)"; "7 .. tested when
+-- entries or `end` begin". The period was tested when it was read
 unfoldable pub opening : State → Effect → Effect
 opening c s = let n = freshRefusal (tableOf c) (c .period .frames) in elim (eqb n 0) [ true ↦ s | false ↦ stop n ]
 

@@ -35,7 +35,8 @@ unfoldable pub linesIn : List ℕ → List (List ℕ)
 linesIn [] = []
 linesIn (x ∷ s) = elim (eqb x 10) [ true ↦ (x ∷ []) ∷ linesIn s | false ↦ onFirst x (linesIn s) ]
 
--- what a line says where its fields have the answer a; else its first fault: "Fields are tested left to right for 2 and 3"
+-- what a line says where its fields have the answer a; else its first fault: "Fields are tested
+-- left to right for 2 and 3"
 unfoldable pub whenGood : Answer → (List ℕ → DayLine) → DayLine
 whenGood a f = choose (eqb (a .number) 0) (f (a .values)) (wrong (a .number))
 

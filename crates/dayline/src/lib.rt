@@ -21,7 +21,8 @@ ghost use Rattle.day.specs.Read.{called, whenGood, verbNamed, bodyRead, lineRea
 ghost use Rattle.dayline.specs.DayLine.{ofDayLine};
 ghost use Rattle.dayline.specs.Steps.{ofNamed, counted, periodOf, serverOf, endOf, entryOf, readPeriod, readSecond, entryRead, fieldsOf, entryNamed};
 
-// What a line says, or the refusal of one that says nothing. A verb of one identity has 0 as the second.
+// What a line says, or the refusal of one that says nothing. A verb of one identity has 0 as the
+// second.
 pub enum DayLine {
     Wrong(Refusal),
     Period(u32),

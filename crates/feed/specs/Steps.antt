@@ -42,7 +42,8 @@ pub record MakesAll (x : Feed) (l w : List ℕ) (k : List Bool) (m : Move) (d : 
   pub passes : Passes x w k x′ w′ k′
   pub same : (n : Refusal) → p ≡ Refused n → (x′ ≡ x) × (w′ ≡ w) × (k′ ≡ k)
 
--- a move, made from what is known and the channel, whatever the line is: w and k are the numbers and the links before it, w′ and k′ those after it
+-- a move, made from what is known and the channel, whatever the line is: w and k are the numbers
+-- and the links before it, w′ and k′ those after it
 abbrev pub Does : Feed → List ℕ → List Bool → (Fed → State → Move) → List ℕ → Step → List ℕ → List Bool → List ℕ → Type 0
 Does x w k m d r w′ k′ d′ = (l : List ℕ) → MakesAll x l w k (m (fedOf x l w k) (channelOf x w k)) d (r .written) (r .feed) w′ k′ d′
 

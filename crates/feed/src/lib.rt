@@ -1,4 +1,5 @@
-// A day fed in pieces, and its sheet line by line. The line under way, the servers' numbers and the links are lent, and changed in place.
+// A day fed in pieces, and its sheet line by line. The line under way, the servers' numbers and the
+// links are lent, and changed in place.
 use dayline::DayLine;
 use group::Links;
 use group::State;
@@ -41,7 +42,9 @@ pub enum Stage {
     AtClose,
 }
 
-// Where a day stands: whether its sheet is over; the number of the line under way, and how many bytes of it are there; which lines have come; the frame and the period. The rest is lent: the line's bytes, the servers as numbers (`places`), the links.
+// Where a day stands: whether its sheet is over; the number of the line under way, and how many
+// bytes of it are there; which lines have come; the frame and the period. The rest is lent: the
+// line's bytes, the servers as numbers (`places`), the links.
 pub struct Feed {
     over: bool,
     number: u32,
@@ -57,7 +60,8 @@ pub struct Taken {
     pub feed: Feed,
 }
 
-// How many bytes were written, and the feed afterwards; 9 where the slice is too short, and then the feed as it was, or for `begin` one that has printed no header.
+// How many bytes were written, and the feed afterwards; 9 where the slice is too short, and then
+// the feed as it was, or for `begin` one that has printed no header.
 pub struct Step {
     pub written: Written,
     pub feed: Feed,
@@ -70,7 +74,8 @@ impl Feed {
     // Lines of a day, at most.
     pub const LINES: u32 = 65535;
 
-    // So many bytes are enough for every step of a feed that began, took and stepped: no frame prints more.
+    // So many bytes are enough for every step of a feed that began, took and stepped: no frame
+    // prints more.
     pub const STEP: usize = Table::SERVERS
         * (2 * lines::LONGEST * (Table::SERVERS * (Server::BEATS as usize + 2))
             + 6 * lines::LONGEST);
@@ -162,7 +167,8 @@ impl Feed {
         }
     }
 
-    // Bytes of a piece, up to the line feed of the line under way or until it is too long; none where a whole line is to be done, or the sheet is over.
+    // Bytes of a piece, up to the line feed of the line under way or until it is too long; none
+    // where a whole line is to be done, or the sheet is over.
     pub fn take(self, line: &mut [u8; Feed::LINE], piece: &[u8]) -> Taken
         ensures { λ r. ⌜ TakesTo self (now (line .entry)) (now (piece .entry)) r (now (line .exit)) ⌝ }
     {
@@ -622,7 +628,8 @@ impl Feed {
         self.perform(words, whole, line, out)
     }
 
-    // What a whole line does, as far as the slice has room: as many frames as fit of those before its time, and where there are none, the line itself. Nothing where no whole line is there; 9.
+    // What a whole line does, as far as the slice has room: as many frames as fit of those before
+    // its time, and where there are none, the line itself. Nothing where no whole line is there; 9.
     pub fn step(
         self,
         line: &[u8; Feed::LINE],
@@ -642,7 +649,8 @@ impl Feed {
         self.go(words, whole, read, out)
     }
 
-    // A second step after n bytes, of a line that was read, if it is still to be done and there is room.
+    // A second step after n bytes, of a line that was read, if it is still to be done and there is
+    // room.
     fn second(
         self,
         line: &[u8; Feed::LINE],
@@ -729,7 +737,8 @@ impl Feed {
         }
     }
 
-    // No byte is to come: 1 where the last line has no line feed, 4 where `end` is missing. Then the sheet is over. Nothing where a whole line is to be done first; 9.
+    // No byte is to come: 1 where the last line has no line feed, 4 where `end` is missing. Then
+    // the sheet is over. Nothing where a whole line is to be done first; 9.
     pub fn finish(self, line: &[u8; Feed::LINE], out: &mut [u8]) -> Step
         ensures { λ r. ⌜ Finishes self (now (line .entry)) (now (out .entry)) r (now (out .exit)) ⌝ }
     {

@@ -1,4 +1,5 @@
--- Lines that are read have times of the day, periods in their range and no great numbers. Assumes nothing.
+-- Lines that are read have times of the day, periods in their range and no great numbers. Assumes
+-- nothing.
 use mathlib.Core.Bool.{false, _&&_}
 use mathlib.Core.Path.{_≡_, refl, sym, ap, ap₂, _∙_}
 use mathlib.Core.List.{List, [], _∷_, _++_}

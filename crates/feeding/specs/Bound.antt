@@ -13,7 +13,8 @@ use Rattle.day.specs.Day.{lastLine}
 use Rattle.feeding.specs.Fed.{Fed, beginning, taken}
 use Rattle.feeding.specs.Moves.{stepMove, stepsMove, lastMove}
 
--- no frame of a small channel (below) prints more bytes: each of 16 servers hears each of the 16 at most 17 times, and has three timers, each with two lines of 27 bytes at the most
+-- no frame of a small channel (below) prints more bytes: each of 16 servers hears each of the 16 at
+-- most 17 times, and has three timers, each with two lines of 27 bytes at the most
 abbrev pub stepBytes : ℕ
 stepBytes = most * (2 * longest * (most * (mostBeats + 2)) + 6 * longest)
 
@@ -27,7 +28,8 @@ pub record SmallChannel (c : State) : Type 0 where
   pub places : length (c .servers) ≡ most
   pub small : (i : ℕ) → Small (place c i)
 
--- what the laws below say of every feed that begins, takes and steps. A feed whose numbers were set by another hand need not be so
+-- what the laws below say of every feed that begins, takes and steps. A feed whose numbers were set
+-- by another hand need not be so
 pub record Bounded (f : Fed) : Type 0 where
   pub number : f .number ≤ suc lastLine
   pub channel : SmallChannel (f .day .channel)

@@ -10,7 +10,8 @@ use Rattle.day.specs.Read.{linesIn}
 use Rattle.day.specs.Day.{Day, begin}
 use Rattle.day.specs.Sheet.{sheetFrom}
 
--- whether the sheet is over, the number of the line under way, its bytes so far, and the day before it
+-- whether the sheet is over, the number of the line under way, its bytes so far, and the day before
+-- it
 pub record Fed : Type 0 where
   pub over : Bool
   pub number : ℕ
@@ -20,7 +21,8 @@ pub record Fed : Type 0 where
 abbrev pub beginning : Fed
 beginning = record { over = false; number = 1; line = []; day = begin }
 
--- so many bytes of a line are looked at: "at most 64 bytes without" its line feed, so that one more without it makes it too long
+-- so many bytes of a line are looked at: "at most 64 bytes without" its line feed, so that one more
+-- without it makes it too long
 abbrev pub enough : ℕ
 enough = suc lineLimit
 
@@ -57,7 +59,8 @@ unfoldable pub before : List ℕ → List (List ℕ) → List (List ℕ)
 before [] ls = ls
 before (x ∷ l) ls = onFirst x (before l ls)
 
--- the lines still to be done where l is the line under way and the bytes s are still to come. What follows a line that is too long does not matter
+-- the lines still to be done where l is the line under way and the bytes s are still to come. What
+-- follows a line that is too long does not matter
 unfoldable pub linesLeft : List ℕ → List ℕ → List (List ℕ)
 linesLeft l s = elim (wholeLine l) [ true ↦ l ∷ linesIn s | false ↦ before l (linesIn s) ]
 

@@ -1,4 +1,5 @@
--- Laws of feeding. The contract of `Feed::begin` has them all (`Laws`, below); the proof is `laws` of proofs/Laws.antt.
+-- Laws of feeding. The contract of `Feed::begin` has them all (`Laws`, below); the proof is `laws`
+-- of proofs/Laws.antt.
 use mathlib.Core.Bool.{true, false}
 use mathlib.Core.Path.{_≡_}
 use mathlib.Core.List.{List, [], _∷_, _++_}
@@ -59,8 +60,10 @@ PairsGoOn = (f : Fed) (room : ℕ) → waits f ≡ true → stepsLeft (stepsMove
 
 -- ---- every way of feeding
 
--- From the feed f on, with the pieces ps to come, w is printed: pieces are taken, and steps made, one or two at a time, with slices of any lengths in which their lines fit, in any
--- order, until the input has ended or the sheet is over. A step that gets 9 changes nothing, so it is not counted
+-- From the feed f on, with the pieces ps to come, w is printed: pieces are taken, and steps made,
+-- one or two at a time, with slices of any lengths in which their lines fit, in any order, until
+-- the input has ended or the sheet is over. A step that gets 9 changes nothing, so it is not
+-- counted
 pub data Feeding : Fed → List (List ℕ) → List ℕ → Type 0 where
   takes : {f : Fed} {p : List ℕ} {ps : List (List ℕ)} {w : List ℕ} → Feeding (taken f p) (drop (takenBytes f p) p ∷ ps) w → Feeding f (p ∷ ps) w
   next : {f : Fed} {ps : List (List ℕ)} {w : List ℕ} → Feeding f ps w → Feeding f ([] ∷ ps) w

@@ -15,7 +15,8 @@ unfoldable pub onMove : Fed → ℕ → State → DayLine → Effect → Move
 onMove f room c l s =
     choose (eqb (framesDue c l) 0) (effectMove f s) (advancing f c (framesNow c (framesDue c l) room))
 
--- a line that is read: a period in its range, a time of the day, identities of 16 bits, and where it is refused a small number
+-- a line that is read: a period in its range, a time of the day, identities of 16 bits, and where
+-- it is refused a small number
 abbrev pub Sized : DayLine → Type 0
 Sized (wrong n) = n < 100
 Sized (period p) = (leastPeriod ≤ p) × (p ≤ greatestPeriod)

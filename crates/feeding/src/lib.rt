@@ -1,1 +1,2 @@
-// A day fed in pieces: what is known of it, what comes next, and the laws of it. Definitions and proofs only.
+// A day fed in pieces: what is known of it, what comes next, and the laws of it. Definitions and
+// proofs only.

@@ -80,7 +80,8 @@ start {wet} {d} {at} =
       dry = λ t. refl;
     }
 
--- A loop that writes: to finish what is left, w at the place at, finishes the whole, w₀ at the place at₀.
+-- A loop that writes: to finish what is left, w at the place at, finishes the whole, w₀ at the
+-- place at₀.
 pub record Toward (wet : Bool) (d₀ : List ℕ) (at₀ : ℕ) (w₀ : List ℕ) (d : List ℕ) (at : ℕ) (w : List ℕ) : Type 0 where
   pub kept : length d ≡ length d₀
   pub goes : (r : ℕ) (d′ : List ℕ) → Out wet d at w r d′ → Out wet d₀ at₀ w₀ r d′

@@ -25,7 +25,8 @@ stateOf t p l w = record { frame = t; period = p; servers = l; whole = w }
 
 -- ---- one server
 
--- some timer that a server has in the role is due in frame t: "A timer set in frame s has age t − s in frame t."
+-- some timer that a server has in the role is due in frame t: "A timer set in frame s has age t − s
+-- in frame t."
 abbrev pub ticksIn : Role → ℕ → Period → Server → Bool
 ticksIn Down t p s = false
 ticksIn Idle t p s = false
@@ -48,8 +49,9 @@ hasNext c = ltb (c .frame) lastFrame
 abbrev pub frameFits : State → List ℕ → ℕ → Bool
 frameFits c d at = hasNext c && fits d at (frameLines c)
 
--- The frame after c, whose servers have the numbers w, played where there is one and its lines have room in the lent slice d, and otherwise not: w′ are the numbers
--- afterwards, d′ the slice. A day is not known here: "16. Advance at frame 2,159,999." is of the calls above
+-- The frame after c, whose servers have the numbers w, played where there is one and its lines have
+-- room in the lent slice d, and otherwise not: w′ are the numbers afterwards, d′ the slice. A day
+-- is not known here: "16. Advance at frame 2,159,999." is of the calls above
 pub record Plays (c : State) (w d : List ℕ) (at : ℕ) (r : Fared) (w′ d′ : List ℕ) : Type 0 where
   pub full : r .full ≡ not (frameFits c d at)
   pub words : Becomes w (choose (frameFits c d at) (advanced c .servers) (c .servers)) w′
@@ -58,7 +60,8 @@ pub record Plays (c : State) (w d : List ℕ) (at : ℕ) (r : Fared) (w′ d′ 
   -- where it is not played, each lent number is as it was
   pub same : r .full ≡ true → w′ ≡ w
 
--- The frame after c, where there is one, its lines only counted: w′ are the numbers afterwards, and r the place after the lines, one past the end of d where they do not fit
+-- The frame after c, where there is one, its lines only counted: w′ are the numbers afterwards, and
+-- r the place after the lines, one past the end of d where they do not fit
 pub record Counts (c : State) (w d : List ℕ) (at r : ℕ) (w′ d′ : List ℕ) : Type 0 where
   pub words : Becomes w (choose (hasNext c) (advanced c .servers) (c .servers)) w′
   pub place : r ≡ choose (hasNext c) (placeAfter d at (frameLines c)) at

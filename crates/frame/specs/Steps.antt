@@ -29,8 +29,8 @@ use Rattle.places.specs.Order.{comesBy, heardBy}
 
 -- ---- lines, written or only counted
 
--- A run of writes is wet, or dry: then it only counts. r is the place after w. Where w fits, a wet run leaves it at its place in d and nothing
--- else changed; a dry run changes nothing
+-- A run of writes is wet, or dry: then it only counts. r is the place after w. Where w fits, a wet
+-- run leaves it at its place in d and nothing else changed; a dry run changes nothing
 pub record Out (wet : Bool) (d : List ℕ) (at : ℕ) (w : List ℕ) (r : ℕ) (d′ : List ℕ) : Type 0 where
   pub end : at ≤ length d + 1 → r ≡ placeAfter d at w
   pub is : wet ≡ true → at + length w ≤ length d → d′ ≡ splice d at w

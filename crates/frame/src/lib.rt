@@ -211,7 +211,8 @@ fn one_if(n: u32) -> usize
     if n == 0 { 0 } else { 1 }
 }
 
-// The places of the first n that sent, in rising order: how many they are, and of every place what it sent, as one number.
+// The places of the first n that sent, in rising order: how many they are, and of every place what
+// it sent, as one number.
 fn list_senders(
     words: &Packed,
     listed: &mut [usize; Table::SERVERS],
@@ -915,7 +916,8 @@ fn frame_fits(
     after <= out.len()
 }
 
-// What came of a frame: the place after its lines; or that they do not fit or there is no next frame, and nothing happened.
+// What came of a frame: the place after its lines; or that they do not fit or there is no next
+// frame, and nothing happened.
 pub struct Fared {
     pub at: usize,
     pub full: bool,
@@ -970,7 +972,8 @@ fn play_held(
     play_fitting(words, whole, period, n, loud, frame, out, at)
 }
 
-// The next frame in place, if there is one and its lines fit from the place `at` on; otherwise nothing.
+// The next frame in place, if there is one and its lines fit from the place `at` on; otherwise
+// nothing.
 pub fn play(
     words: &mut Packed,
     whole: &Links,
@@ -1013,7 +1016,9 @@ fn count_held(
     play_frame(words, whole, period, n, loud, frame, out, false, start)
 }
 
-// The next frame in place, its lines only counted: the servers move on, no byte is changed. The place after the lines, or one past the slice's end where they do not fit; where there is no next frame, nothing.
+// The next frame in place, its lines only counted: the servers move on, no byte is changed. The
+// place after the lines, or one past the slice's end where they do not fit; where there is no next
+// frame, nothing.
 pub fn count(
     words: &mut Packed,
     whole: &Links,

@@ -122,7 +122,8 @@ goes-jump c {target} {s} {wet} {d} {at} {r} {d′} h j w =
       steps = jumped c j w;
     }
 
--- ---- all frames up to the target: what is left from the frame t with the servers l is the rest of all from c on
+-- ---- all frames up to the target: what is left from the frame t with the servers l is the rest of
+-- all from c on
 
 pub record Playing (wet : Bool) (c : State) (target : ℕ) (d₀ : List ℕ) (at₀ : ℕ) (d : List ℕ) (l : List Server) (t at : ℕ) : Type 0 where
   pub rest : advancedBy (target - t) (movedTo c t l) ≡ advancedBy (target - c .frame) c

@@ -13,7 +13,8 @@ use Rattle.frames.specs.declared.Advance.{Advance}
 use Rattle.frames.specs.declared.Ran.{Ran}
 use Rattle.places.specs.Words.{serversOf, Becomes}
 
--- an advance of the channel c, whose servers have the numbers w, with the lent slice d: its answer, and the slice afterwards. Period and links stay
+-- an advance of the channel c, whose servers have the numbers w, with the lent slice d: its answer,
+-- and the slice afterwards. Period and links stay
 pub record Advances (c : State) (o : Outcome) (w d : List ℕ) (r : Advance) (d′ : List ℕ) : Type 0 where
   pub gives : Gives c o d (r .verdict) (r .written) (movedTo c (r .frame) (serversOf (r .words))) d′
   pub words : Becomes w (channelIn c o (length d) .servers) (r .words)

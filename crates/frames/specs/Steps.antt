@@ -48,7 +48,8 @@ pub record Steps (wet : Bool) (n : ℕ) (c : State) (d : List ℕ) (at : ℕ) (r
   pub channel : movedTo c (r .frame) (r .servers) ≡ advancedBy n c
   pub out : Out wet d at (linesBy n c) (r .at) d′
 
--- r is a frame from t to the target, later than t only where nobody sent, and up to it nothing happens, whatever the links
+-- r is a frame from t to the target, later than t only where nobody sent, and up to it nothing
+-- happens, whatever the links
 pub record Jumps (p : Period) (l : List Server) (t target r : ℕ) : Type 0 where
   pub from : t ≤ r
   pub to : r ≤ target
@@ -62,13 +63,15 @@ pub record Goes (wet : Bool) (c : State) (target : ℕ) (d : List ℕ) (at : ℕ
   pub within : c .frame + count ≤ target
   pub steps : Steps wet count c d at r d′
 
--- the numbers w of frame t become w′ in frame t′, which is not earlier; in the same frame they are the same
+-- the numbers w of frame t become w′ in frame t′, which is not earlier; in the same frame they are
+-- the same
 pub record Moves (w w′ : List ℕ) (t t′ : ℕ) : Type 0 where
   pub keeps : Keeps w w′
   pub later : t ≤ t′
   pub same : t′ ≡ t → w′ ≡ w
 
--- ---- a calm group: one primary beats, and every other server hears it, or neither hears nor has a timer
+-- ---- a calm group: one primary beats, and every other server hears it, or neither hears nor has a
+-- timer
 
 -- place i after a beat of place b in frame f, which was heard in the next
 abbrev pub pulsed : ℕ → ℕ → ℕ → Server → Server
@@ -90,7 +93,8 @@ pub record Calm (p : Period) (w : List Bool) (l : List Server) (b t f : ℕ) : T
   pub unsent : (i : ℕ) → i < most → sentAny (getD l i absent) ≡ false
   pub others : (i : ℕ) → i < most → (i ≡ b → ⊥) → (isStill (getD l i absent) ≡ true) ⊎ Listens p w b i t f (getD l i absent)
 
--- a server that does nothing until a verb, or a backup that hears and whose timer is not due after the frame t and up to f
+-- a server that does nothing until a verb, or a backup that hears and whose timer is not due after
+-- the frame t and up to f
 abbrev pub Waits : Period → Bool → ℕ → ℕ → Server → Type 0
 Waits p link t f s = (isStill s ≡ true) ⊎ ((s .role ≡ Backup) × ((link ≡ true) × NotDue (s .silence) (silenceLimit p) t (f + 1)))
 

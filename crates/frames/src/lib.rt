@@ -1,4 +1,5 @@
-// Frames one after another: those in which nothing happens are jumped over, and beats of a calm group come many at a time.
+// Frames one after another: those in which nothing happens are jumped over, and beats of a calm
+// group come many at a time.
 use group::Links;
 use group::Table;
 use periods::Period;
@@ -179,7 +180,8 @@ fn count_on(
     count_next(words, whole, period, start, target, out, at)
 }
 
-// All frames up to the target, counted: the place after their lines, or one past the slice's end where they do not fit.
+// All frames up to the target, counted: the place after their lines, or one past the slice's end
+// where they do not fit.
 fn count_all(
     words: Packed,
     whole: &Links,
@@ -201,7 +203,8 @@ fn count_all(
     at
 }
 
-// The frame reached, the place after the lines that led there, and whether the next frame's lines do not fit.
+// The frame reached, the place after the lines that led there, and whether the next frame's lines
+// do not fit.
 struct Stretched {
     frame: u32,
     at: usize,
@@ -375,7 +378,8 @@ fn settle(words: &mut Packed, b: usize, last: u32)
     }
 }
 
-// Beats of place b, one a period, as long as they fit; where there is no room for any line, the next frame, if it fits.
+// Beats of place b, one a period, as long as they fit; where there is no room for any line, the
+// next frame, if it fits.
 fn beat_along(
     words: &mut Packed,
     whole: &Links,
@@ -461,7 +465,8 @@ fn play_within(
     Reached { frame: now, at }
 }
 
-// What an advance answers: where it is refused, nothing written, the same frame and the same numbers.
+// What an advance answers: where it is refused, nothing written, the same frame and the same
+// numbers.
 pub struct Advance {
     pub verdict: Verdict,
     pub written: usize,
@@ -469,7 +474,8 @@ pub struct Advance {
     pub words: Packed,
 }
 
-// All frames up to the target, or 9; where the target is not after the present frame, nothing happens. They are counted first, so that 9 comes before any byte.
+// All frames up to the target, or 9; where the target is not after the present frame, nothing
+// happens. They are counted first, so that 9 comes before any byte.
 pub fn run(
     words: Packed,
     whole: &Links,
@@ -499,14 +505,16 @@ pub fn run(
     }
 }
 
-// What an advance in place answers: where it is refused, nothing written, the same frame and the same numbers.
+// What an advance in place answers: where it is refused, nothing written, the same frame and the
+// same numbers.
 pub struct Ran {
     pub verdict: Verdict,
     pub written: usize,
     pub frame: u32,
 }
 
-// No timer that the server's role has is due after the present frame and up to the target. No branch hangs on the role: roles follow no pattern.
+// No timer that the server's role has is due after the present frame and up to the target. No
+// branch hangs on the role: roles follow no pattern.
 fn rests(s: Server, period: Period, frame: u32, target: u32) -> bool
     ensures { λ r. ⌜ (r ≡ Bool.true → Rests frame period s (target + 1)) ⌝ }
 {
@@ -546,7 +554,8 @@ fn nothing_until(words: &Packed, period: Period, frame: u32, target: u32) -> boo
     }
 }
 
-// As many single advances towards the target as fit, in place; 9 where there are some to make and not one fits.
+// As many single advances towards the target as fit, in place; 9 where there are some to make and
+// not one fits.
 pub fn run_within(
     words: &mut Packed,
     whole: &Links,

@@ -1,4 +1,5 @@
--- Types of plain data, and a struct of a state and an answer: all that `InPlace0.antt` and its like know of the types of a function. Assumes nothing.
+-- Types of plain data, and a struct of a state and an answer: all that `InPlace0.antt` and its like
+-- know of the types of a function. Assumes nothing.
 use mathlib.Core.Path.{_≡_}
 use mathlib.Core.List.{List, [], _∷_}
 use Prim.Native.Nat.{ℕ}

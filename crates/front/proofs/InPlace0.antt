@@ -1,6 +1,8 @@
--- A function that moves a struct on in place, `let o = (*s).step(); *s = o.state; o.answer`: one walk of the code for every such function.
--- The borrow is opened, the struct is copied out and passed to the step by value, the state that the step returned is stored in its place, the borrow is
--- closed at that state, and the answer is returned. All that is known of the step is what it ensures. Assumes nothing.
+-- A function that moves a struct on in place, `let o = (*s).step(); *s = o.state; o.answer`: one
+-- walk of the code for every such function. The borrow is opened, the struct is copied out and
+-- passed to the step by value, the state that the step returned is stored in its place, the borrow
+-- is closed at that state, and the answer is returned. All that is known of the step is what it
+-- ensures. Assumes nothing.
 use mathlib.Core.Path.{_≡_, refl, ap}
 use Prim.Native.Nat.{ℕ}
 use mathlib.Core.List.{[], _∷_, List}
@@ -116,14 +118,16 @@ module _ (S N : Data) (O : After S N) where
                 move ! (9 ∷ []) $ fsplit ! $ fsplit3 ! $ drop ! $ move ! (11 ∷ []) $ split ! $ move ! (2 ∷ 3 ∷ 0 ∷ []) $
                 opens ! tt (type S) {h = h} b o (λ vs. spelt ! (type S) (Is (type S)) (shows 𝓤 H A (type S)) vals (S .tells) fullShare h vs b o $
                 move ! (1 ∷ []) $ peeks ! (type S) (Is (type S)) (shows 𝓤 H A (type S)) h (vals h) (λ was. move ! (1 ∷ 0 ∷ []) $
-                -- [the struct's cell; what it owns; the open borrow; obs; auth; true; true; _3; …; _2; …; _1; …; room for _0; …]
+                -- [the struct's cell; what it owns; the open borrow; obs; auth; true; true; _3; …;
+                -- _2; …; _1; …; room for _0; …]
                 assigns ! (of-opd ! (load ! (from ! (hop ! (look ! 11 refl) (stop !))) (look-raw ! 0 refl))) (from ! (stop !)) (init ! 7 refl (S .typed 𝓤 H A W h _ was .0)) $
                 move ! (1 ∷ []) $ use1 W (raw (Step .pre to-step)) goes-step $
                 calls-at ! fm Step known to-step (and-then ! (load ! (from ! (stop !)) (look ! 7 refl)) (no-more !)) (λ v.
                 use1 W (later (some (λ (r : O .D). (‵ ftrue ⊛ ‵ (O .own r (v ∷ []))) ⊛ raw (ensured 𝓤 H A step-ended step-clauses tt (h, tt) tt r)))) (id⊢ 𝓤 _) $ await ! tt $ pick ! (λ r.
                 split ! $ move ! (1 ∷ []) $ use1 W (raw (fact 𝓤 (P h r))) (ensures-of h r) $ heard ! (P h r) (λ e. split ! $ drop ! $
                 peeks ! (after-type O) (Is (after-type O)) (shows 𝓤 H A (after-type O)) r (v ∷ []) (λ is.
-                -- [what the result owns; the struct's cell; the open borrow; obs; auth; true; true; _3; …; _2; …; _1; …; room for _0; …]
+                -- [what the result owns; the struct's cell; the open borrow; obs; auth; true; true;
+                -- _3; …; _2; …; _1; …; room for _0; …]
                 land ! (from ! (stop !)) (init ! 9 refl (O .typed 𝓤 H A W r _ is .0)) $
                 rewrite ! 9 (λ (u : Val). ‵ (fat fullShare (after-ty O) l₂ 0 u)) (ap only (O .tells r (v ∷ []) is)) refl $
                 assigns ! (of-opd ! (load ! (from ! (fld ! refl (stop !))) (look-in ! 9 (sub ! 0 refl (whole !))))) (from ! (hop ! (look ! 11 refl) (stop !))) (store-raw ! 1 refl (S .typed 𝓤 H A W (O .state r) _ (O .of-state r _ is) .0)) $

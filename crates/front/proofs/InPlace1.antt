@@ -1,6 +1,8 @@
--- A function that moves a struct on in place, `let o = (*s).step(x); *s = o.state; o.answer`: one walk of the code for every such function.
--- The borrow is opened, the struct is copied out and passed to the step by value, the state that the step returned is stored in its place, the borrow is
--- closed at that state, and the answer is returned. All that is known of the step is what it ensures. Assumes nothing.
+-- A function that moves a struct on in place, `let o = (*s).step(x); *s = o.state; o.answer`: one
+-- walk of the code for every such function. The borrow is opened, the struct is copied out and
+-- passed to the step by value, the state that the step returned is stored in its place, the borrow
+-- is closed at that state, and the answer is returned. All that is known of the step is what it
+-- ensures. Assumes nothing.
 use mathlib.Core.Path.{_≡_, refl, ap}
 use Prim.Native.Nat.{ℕ}
 use mathlib.Core.List.{[], _∷_, List}
@@ -116,21 +118,24 @@ module _ (S N : Data) (O : After S N) (X : Data) where
                 move ! (11 ∷ []) $ fsplit ! $ fsplit3 ! $ drop ! $ move ! (13 ∷ []) $ split ! $ move ! (2 ∷ 3 ∷ 0 ∷ []) $
                 opens ! tt (type S) {h = h} b o (λ vs. spelt ! (type S) (Is (type S)) (shows 𝓤 H A (type S)) vals (S .tells) fullShare h vs b o $
                 move ! (1 ∷ []) $ peeks ! (type S) (Is (type S)) (shows 𝓤 H A (type S)) h (vals h) (λ was. move ! (1 ∷ 0 ∷ []) $
-                -- [the struct's cell; what it owns; the open borrow; obs; auth; true; what the argument owns; _4; …; _3; …; _2; …; _1; …; room for _0; …]
+                -- [the struct's cell; what it owns; the open borrow; obs; auth; true; what the
+                -- argument owns; _4; …; _3; …; _2; …; _1; …; room for _0; …]
                 assigns ! (of-opd ! (load ! (from ! (hop ! (look ! 13 refl) (stop !))) (look-raw ! 0 refl))) (from ! (stop !)) (init ! 7 refl (S .typed 𝓤 H A W h _ was .0)) $
                 move ! (1 ∷ []) $ use1 W (raw (Step .pre to-step)) goes-step $
                 calls-at ! fm Step known to-step (and-then ! (load ! (from ! (stop !)) (look ! 7 refl)) (and-then ! (load ! (from ! (stop !)) (look ! 11 refl)) (no-more !))) (λ v.
                 use1 W (later (some (λ (r : O .D). (‵ ftrue ⊛ ‵ (O .own r (v ∷ []))) ⊛ raw (ensured 𝓤 H A step-ended step-clauses tt (h, (n, tt)) tt r)))) (id⊢ 𝓤 _) $ await ! tt $ pick ! (λ r.
                 split ! $ move ! (1 ∷ []) $ use1 W (raw (fact 𝓤 (P h n r))) (ensures-of h n r) $ heard ! (P h n r) (λ e. split ! $ drop ! $
                 peeks ! (after-type O) (Is (after-type O)) (shows 𝓤 H A (after-type O)) r (v ∷ []) (λ is.
-                -- [what the result owns; the struct's cell; the open borrow; obs; auth; true; what the argument owns; _4; …; _3; …; _2; …; _1; …; room for _0; …]
+                -- [what the result owns; the struct's cell; the open borrow; obs; auth; true; what
+                -- the argument owns; _4; …; _3; …; _2; …; _1; …; room for _0; …]
                 land ! (from ! (stop !)) (init ! 9 refl (O .typed 𝓤 H A W r _ is .0)) $
                 rewrite ! 9 (λ (u : Val). ‵ (fat fullShare (after-ty O) l₃ 0 u)) (ap only (O .tells r (v ∷ []) is)) refl $
                 assigns ! (of-opd ! (load ! (from ! (fld ! refl (stop !))) (look-in ! 9 (sub ! 0 refl (whole !))))) (from ! (hop ! (look ! 13 refl) (stop !))) (store-raw ! 1 refl (S .typed 𝓤 H A W (O .state r) _ (O .of-state r _ is) .0)) $
                 assigns ! (of-opd ! (load ! (from ! (fld ! refl (stop !))) (look-in ! 9 (sub ! 1 refl (whole !))))) (from ! (stop !)) (init ! 15 refl (N .typed 𝓤 H A W (O .answer r) _ (O .of-answer r _ is) .0)) $
                 drop ! $ owned ! (type S) (Is (type S)) (made S 𝓤 H A) (O .state r) _ (O .of-state r _ is) $
                 move ! (1 ∷ 0 ∷ []) $ closes ! tt (type S) (O .state r) (vals (O .state r)) b o $
-                -- [obs; the borrow; the token; true; what the argument owns; _4; …; _3; …; _2; …; _1; …; _0; …]
+                -- [obs; the borrow; the token; true; what the argument owns; _4; …; _3; …; _2; …;
+                -- _1; …; _0; …]
                 returns ! (look ! 13 refl) $ forget ! 5 refl $ forget ! 7 refl $ forget ! 9 refl $ forget ! 11 refl $ forget ! 13 refl $
                 move ! (13 ∷ 14 ∷ []) $ free1 ! $ move ! (11 ∷ 12 ∷ []) $ free1 ! $ move ! (9 ∷ 10 ∷ []) $ free1 ! $ move ! (7 ∷ 8 ∷ []) $ free1 ! $ move ! (5 ∷ 6 ∷ []) $ free1 ! $ free0 ! $
                 keep ! (0 ∷ 1 ∷ 2 ∷ []) $ by ! (exits r (O .of-answer r _ is) e))))))))))))

@@ -1,4 +1,5 @@
--- The front, what its functions take and answer, and what its steps return, as types of plain data. Assumes nothing.
+-- The front, what its functions take and answer, and what its steps return, as types of plain data.
+-- Assumes nothing.
 use mir.Syntax.{w16}
 use Rattle.front.specs.declared.AfterBegin.{AfterBegin}
 use Rattle.front.specs.declared.AfterHearing.{AfterHearing}

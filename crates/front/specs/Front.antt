@@ -44,19 +44,23 @@ abbrev pub ofFront : FrontAnswer → Answer
 ofFront (Is f) = accepted (frontNumbers f)
 ofFront (Refused r) = refused (numberOf r)
 
--- one server of a fresh channel: "at frame 0, all servers idle, .. nothing sent". A front holds no links
+-- one server of a fresh channel: "at frame 0, all servers idle, .. nothing sent". A front holds no
+-- links
 abbrev pub fresh : ℕ → ℕ → ℕ → Front
 fresh i p n = record { server = idle i p; frame = 0; period = record { frames = n } }
 
 -- "an identity 1..65,535", "P is the period in frames, 2..250"; else "2. A number .. out of range."
--- Left free, since one server knows no table: "5. Identity already in the table.", 6, and "7. P below the number of servers"
+-- Left free, since one server knows no table: "5. Identity already in the table.", 6, and "7. P
+-- below the number of servers"
 unfoldable pub takeFront : ℕ → ℕ → ℕ → Answer
 takeFront i p n = choose (not (eqb i 0) && (leb leastPeriod n && leb n greatestPeriod)) (accepted (frontNumbers (fresh i p n))) (refused 2)
 
--- ---- its steps: "The playout server itself holds one server's timers and moves them on in place each frame, as a thin front over the step above."
--- Of each: the front f before it, its answer r, and the front f′ after it
--- Left free: the order of the steps, which is the caller's. A frame of document 01 is `begin`, a `hear` for each heartbeat, `tick`, then verbs
--- An event answered says what to send: `ToProspectBeat` and `Beat` "a plain beat", `ToProspectReveal` "a reveal", `Passed b` "a heartbeat with BS = b"; others nothing
+-- ---- its steps: "The playout server itself holds one server's timers and moves them on in place
+-- each frame, as a thin front over the step above."
+-- Of each: the front f before it, its answer r, and the front f′ after it Left free: the order of
+-- the steps, which is the caller's. A frame of document 01 is `begin`, a `hear` for each heartbeat,
+-- `tick`, then verbs An event answered says what to send: `ToProspectBeat` and `Beat` "a plain
+-- beat", `ToProspectReveal` "a reveal", `Passed b` "a heartbeat with BS = b"; others nothing
 
 abbrev pub withServer : Server → Front → Front
 withServer s f = record { server = s; frame = f .frame; period = f .period }
@@ -69,12 +73,14 @@ risen f = record { server = cleared (f .server); frame = f .frame + 1; period = 
 abbrev pub goesOn : Front → Bool
 goesOn f = inDay (f .frame + 1)
 
--- the next frame begins; "16. Advance at frame 2,159,999.", and the same front. A frame outside the day, which no step reaches, gets 16 too
+-- the next frame begins; "16. Advance at frame 2,159,999.", and the same front. A frame outside the
+-- day, which no step reaches, gets 16 too
 pub record FrontBegins (f : Front) (r : Verdict) (f′ : Front) : Type 0 where
   pub number : ofVerdict r ≡ choose (goesOn f) 0 16
   pub front : f′ ≡ choose (goesOn f) (risen f) f
 
--- "Hearing, one heartbeat at a time": in the present frame. The event answered is that of this one heartbeat
+-- "Hearing, one heartbeat at a time": in the present frame. The event answered is that of this one
+-- heartbeat
 abbrev pub hearing : Front → Heartbeat → AfterHearing
 hearing f h =
     let r = heard (f .frame) (f .server) h in
@@ -84,8 +90,9 @@ pub record FrontHears (f : Front) (h : Heartbeat) (r : HeardNow) (f′ : Front) 
   pub answer : r ≡ hearing f h .answer
   pub front : f′ ≡ hearing f h .front
 
--- "Timers, after all hearing in the frame": in the present frame. The events answered are those of the three timers, in their order:
--- "backup with silence age 2 × P: to prospect, sending a reveal", "beat age P: a plain beat", "then prospect with prospect age 2 × P: to primary"
+-- "Timers, after all hearing in the frame": in the present frame. The events answered are those of
+-- the three timers, in their order: "backup with silence age 2 × P: to prospect, sending a reveal",
+-- "beat age P: a plain beat", "then prospect with prospect age 2 × P: to primary"
 abbrev pub timing : Front → AfterTimers
 timing f =
     let r = timed (f .frame) (f .period) (f .server) in
@@ -95,13 +102,14 @@ pub record FrontTicks (f : Front) (r : TimedNow) (f′ : Front) : Type 0 where
   pub answer : r ≡ timing f .answer
   pub front : f′ ≡ timing f .front
 
--- what a verb does to the front's server, b being the second identity; "Any of them returns its number and the same channel": of a refused one, nothing
+-- what a verb does to the front's server, b being the second identity; "Any of them returns its
+-- number and the same channel": of a refused one, nothing
 abbrev pub happens : Verb → ℕ → Front → Event
 happens v b f = verbHappens v b (verbAnswer v b (f .server))
 
--- a verb in the present frame, by "The table of roles against verbs"
--- Left free, since one server knows no table: 8 for a second identity "not in the table"
--- Left free, since it holds no links: 15. `cut` and `mend` get 2 or 8 for their identities, else are accepted, and nothing happens
+-- a verb in the present frame, by "The table of roles against verbs" Left free, since one server
+-- knows no table: 8 for a second identity "not in the table" Left free, since it holds no links:
+-- 15. `cut` and `mend` get 2 or 8 for their identities, else are accepted, and nothing happens
 pub record FrontActs (v : Verb) (b : ℕ) (f : Front) (r : ActedNow) (f′ : Front) : Type 0 where
   pub number : ofVerdict (r .verdict) ≡ verbAnswer v b (f .server) .number
   pub event : r .event ≡ happens v b f

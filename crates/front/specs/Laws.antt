@@ -22,8 +22,9 @@ unfoldable pub hearings : Front → List Heartbeat → Front
 hearings f [] = f
 hearings f (h ∷ hs) = hearings (hearing f h .front) hs
 
--- "a thin front over the step above": `begin`, a `hear` for each heartbeat, and `tick` are the step of one server in the next frame, "the frame number rises by 1;
--- then, .. hearing and timers". The heartbeats may be any, in any order: who hears what is the channel's
+-- "a thin front over the step above": `begin`, a `hear` for each heartbeat, and `tick` are the step
+-- of one server in the next frame, "the frame number rises by 1; then, .. hearing and timers". The
+-- heartbeats may be any, in any order: who hears what is the channel's
 abbrev pub FrameIsTheStep : Type 0
 FrameIsTheStep =
     (f f₁ f₂ : Front) (hs : List Heartbeat) (r : TimedNow) → FrontBegins f Accepted f₁ → FrontTicks (hearings f₁ hs) r f₂ →
@@ -52,7 +53,8 @@ pub record Laws : Type 0 where
   pub verbs : RefusedVerbStays
   pub numbers : NumbersTell
 
--- the front of the server i with the priority p and the period n, or 2; and what holds of all fronts
+-- the front of the server i with the priority p and the period n, or 2; and what holds of all
+-- fronts
 pub record FrontMade (i p n : ℕ) (r : FrontAnswer) : Type 0 where
   pub answer : ofFront r ≡ takeFront i p n
   pub laws : Laws

@@ -161,7 +161,8 @@ impl Front {
         }
     }
 
-    // A verb in the present frame; `to` is the second identity, where the verb has one. Where it is refused, the same front.
+    // A verb in the present frame; `to` is the second identity, where the verb has one. Where it is
+    // refused, the same front.
     pub fn acted(self, verb: Verb, to: u16) -> AfterVerb
         ensures { λ r. ⌜ FrontActs verb to self (r .answer) (r .front) ⌝ }
     {

@@ -100,7 +100,8 @@ module _ (c : State) (j last : ℕ) (apart : Apart c j) where
         first = λ i l w. on (less i n) (λ g. f .first i g w) (λ g. let q : i ≡ n = omega arith in behind (rw q at w) q t);
       })
     where
-      -- n may be heard, and does not come before the best: then there is a best, and it comes before n
+      -- n may be heard, and does not come before the best: then there is a best, and it comes
+      -- before n
       behind : {i : ℕ} → waits c j last n ≡ true → i ≡ n → comes c j last best n ≡ false → (best < 16) × ((i ≡ best) ⊎ (over c best i ≡ true))
       behind {i} w q t =
           on (less best 16)

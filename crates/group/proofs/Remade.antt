@@ -1,4 +1,5 @@
--- The servers of a table, added one after the other as they stand, make that table. Assumes nothing.
+-- The servers of a table, added one after the other as they stand, make that table. Assumes
+-- nothing.
 use mathlib.Core.Bool.{Bool, true, false, not, _&&_, _||_}
 use mathlib.Core.Path.{_≡_, refl, sym, ap, ap₂, subst, _∙_}
 use mathlib.Core.Logic.{_⊎_, inl, inr}

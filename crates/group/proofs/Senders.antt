@@ -1,4 +1,5 @@
--- The senders that a place hears: each may be heard, each lower than the one before, and none left out. Assumes nothing.
+-- The senders that a place hears: each may be heard, each lower than the one before, and none left
+-- out. Assumes nothing.
 use mathlib.Core.Bool.{true, false}
 use mathlib.Core.Path.{_≡_, refl, sym, _∙_}
 use mathlib.Core.List.{[], _∷_, List·Memᴰ, List·Memᴰ·head, List·Memᴰ·tail, List·Memᴰ·not-nil, List·Memᴰ·cases-cons}

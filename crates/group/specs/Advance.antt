@@ -10,7 +10,8 @@ use Rattle.group.specs.declared.State.{State}
 use Rattle.group.specs.Outcome.{Outcome}
 use Rattle.group.specs.Frame.{advanced, frameLines}
 
--- by one frame: "16. Advance at frame 2,159,999." Frames after it, which no call can reach, get 16 too: document 01 is silent on them
+-- by one frame: "16. Advance at frame 2,159,999." Frames after it, which no call can reach, get 16
+-- too: document 01 is silent on them
 abbrev pub stepOutcome : State → Outcome
 stepOutcome c = record { number = choose (inDay (c .frame + 1)) 0 16; lines = frameLines c; channel = advanced c }
 
@@ -23,8 +24,8 @@ unfoldable pub linesBy : ℕ → State → List ℕ
 linesBy zero c = []
 linesBy (suc n) c = frameLines c ++ linesBy n (advanced c)
 
--- all frames up to the frame t; none where it is not after the present one. It knows no end of the day: the calls test that before it, and document 01 is
--- silent on frames after it
+-- all frames up to the frame t; none where it is not after the present one. It knows no end of the
+-- day: the calls test that before it, and document 01 is silent on frames after it
 abbrev pub timeGoes : State → ℕ → Outcome
 timeGoes c t = record { number = 0; lines = linesBy (t - c .frame) c; channel = advancedBy (t - c .frame) c }
 
@@ -32,7 +33,8 @@ timeGoes c t = record { number = 0; lines = linesBy (t - c .frame) c; channel = 
 unfoldable pub timeRefusal : State → ℕ → ℕ
 timeRefusal c t = choose (inDay t) (choose (ltb t (c .frame)) 11 0) 3
 
--- to a time: "an accepted one over several frames is as many advances". To the present frame it is accepted and plays none, also at frame 2,159,999
+-- to a time: "an accepted one over several frames is as many advances". To the present frame it is
+-- accepted and plays none, also at frame 2,159,999
 abbrev pub timeOutcome : State → ℕ → Outcome
 timeOutcome c t = record { number = timeRefusal c t; lines = linesBy (t - c .frame) c; channel = advancedBy (t - c .frame) c }
 
@@ -48,7 +50,8 @@ fitting (suc n) c room =
 abbrev pub framesWithin : State → ℕ → ℕ → ℕ
 framesWithin c t room = fitting (t - c .frame) c room
 
--- "9", where there are frames to go and not even one fits. Like `timeGoes` it knows no end of the day
+-- "9", where there are frames to go and not even one fits. Like `timeGoes` it knows no end of the
+-- day
 abbrev pub withinGoes : State → ℕ → ℕ → Outcome
 withinGoes c t room =
     record {

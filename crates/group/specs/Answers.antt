@@ -27,7 +27,8 @@ pub record Takes (l : List Server) (r : Added) : Type 0 where
   pub number : ofVerdict (r .verdict) ≡ choose (isTable l) 0 2
   pub table : r .table ≡ tableWith l
 
--- the state that is handed back where no channel is opened: one with no server. Document 01 is silent on it
+-- the state that is handed back where no channel is opened: one with no server. Document 01 is
+-- silent on it
 abbrev pub noChannel : State
 noChannel = fresh empty leastPeriod
 
@@ -38,7 +39,8 @@ pub record Opens (t : Table) (n : ℕ) (r : Opened) : Type 0 where
   -- and what holds of every table and of every call on every channel
   pub laws : Laws
 
--- a call on the channel c with the lent slice d: its verdict, how many bytes it wrote, the channel x that it hands back, and the slice afterwards
+-- a call on the channel c with the lent slice d: its verdict, how many bytes it wrote, the channel
+-- x that it hands back, and the slice afterwards
 pub record Gives (c : State) (o : Outcome) (d : List ℕ) (v : Verdict) (n : ℕ) (x : State) (d′ : List ℕ) : Type 0 where
   pub number : ofVerdict v ≡ numberIn o (length d)
   pub written : n ≡ writtenIn o (length d)

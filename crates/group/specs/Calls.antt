@@ -8,10 +8,11 @@ use Rattle.group.specs.Outcome.{Outcome, numberIn, channelIn, sliceIn}
 use Rattle.group.specs.Verbs.{verbOutcome}
 use Rattle.group.specs.Advance.{stepOutcome, timeOutcome}
 
--- "The calls may have any identities, .. any times and any lent slice": a verb with its identities (the second is not looked at
--- where the verb has one only), the advance by one frame, the advance to a time; the last argument is the lent slice.
--- Identities have no upper limit here: that is the type's. "the sheet line of a refusal is written by a call after it": that one (`write_refused` of the
--- crate channel) only reads the frame and changes no channel, so it is no `Call` of a list
+-- "The calls may have any identities, .. any times and any lent slice": a verb with its identities
+-- (the second is not looked at where the verb has one only), the advance by one frame, the advance
+-- to a time; the last argument is the lent slice. Identities have no upper limit here: that is the
+-- type's. "the sheet line of a refusal is written by a call after it": that one (`write_refused` of
+-- the crate channel) only reads the frame and changes no channel, so it is no `Call` of a list
 pub data Call : Type 0 where
   verb : Verb → ℕ → ℕ → List ℕ → Call
   advance : List ℕ → Call
@@ -27,7 +28,8 @@ sliceOf (verb v a b d) = d
 sliceOf (advance d) = d
 sliceOf (advanceTo t d) = d
 
--- the number that a call gets (0: it is accepted), the channel that it hands back, and its lent slice afterwards
+-- the number that a call gets (0: it is accepted), the channel that it hands back, and its lent
+-- slice afterwards
 unfoldable pub callNumber : State → Call → ℕ
 callNumber c k = numberIn (outcomeOf c k) (length (sliceOf k))
 

@@ -22,7 +22,8 @@ heardLines t s (h ∷ hs) = linesOf t (s .identity) (said (heard t s h .event)) 
 unfoldable pub timedLines : ℕ → ℕ → Timed → List ℕ
 timedLines t i m = linesOf t i (said (m .silent)) ++ (linesOf t i (said (m .beating)) ++ linesOf t i (said (m .rising)))
 
--- the server at place j after the hearing of frame t, before which it has sent nothing in this frame
+-- the server at place j after the hearing of frame t, before which it has sent nothing in this
+-- frame
 unfoldable pub hearing : State → ℕ → ℕ → Server → Server
 hearing c t j s = heardAll t (cleared s) (inbox c j)
 
@@ -33,7 +34,8 @@ turned c t j s = timed t (c .period) (hearing c t j s) .server
 unfoldable pub turnLines : State → ℕ → ℕ → Server → List ℕ
 turnLines c t j s = heardLines t (cleared s) (inbox c j) ++ timedLines t (s .identity) (timed t (c .period) (hearing c t j s))
 
--- the lines of the servers of l, in the order of the places, which is that of rising identity; k is the place of the first
+-- the lines of the servers of l, in the order of the places, which is that of rising identity; k is
+-- the place of the first
 unfoldable pub turnsLines : State → ℕ → ℕ → List Server → List ℕ
 turnsLines c t k [] = []
 turnsLines c t k (s ∷ l) = turnLines c t k s ++ turnsLines c t (suc k) l

@@ -40,13 +40,15 @@ noPlace = most
 abbrev pub isPlace : ℕ → Bool
 isPlace i = ltb i most
 
--- place j hears place i, which comes after the place last and before the best found so far (16: none)
+-- place j hears place i, which comes after the place last and before the best found so far (16:
+-- none)
 unfoldable pub comes : State → ℕ → ℕ → ℕ → ℕ → Bool
 comes c j last best i =
     hearsFrom c j i && (choose (isPlace last) (over c last i) true && choose (isPlace best) (over c i best) true)
 
--- "A server hears senders from highest to lowest": of the first n places, the highest that place j hears and that is lower than the last. Of two
--- places that sent and have one rank only the first is heard; no two servers of a table have one rank, so document 01 is silent on it
+-- "A server hears senders from highest to lowest": of the first n places, the highest that place j
+-- hears and that is lower than the last. Of two places that sent and have one rank only the first
+-- is heard; no two servers of a table have one rank, so document 01 is silent on it
 unfoldable pub nextAmong : State → ℕ → ℕ → ℕ → ℕ
 nextAmong c j last zero = noPlace
 nextAmong c j last (suc n) = let best = nextAmong c j last n in choose (comes c j last best n) n best

@@ -1,5 +1,6 @@
--- Laws of tables, and of hearing and of every call on every channel, whether calls reach that channel or not. The contract of `State::fresh` has them all
--- (`Laws`, below); the proof is `laws` of proofs/Laws.antt.
+-- Laws of tables, and of hearing and of every call on every channel, whether calls reach that
+-- channel or not. The contract of `State::fresh` has them all (`Laws`, below); the proof is `laws`
+-- of proofs/Laws.antt.
 use mathlib.Core.Bool.{true, false, not}
 use mathlib.Core.Path.{_≡_}
 use mathlib.Core.Logic.{_≢_}
@@ -30,7 +31,8 @@ serverAt t i = getD (t .servers) i absent
 
 pub record InOrder (t : Table) : Type 0 where
   pub places : length (t .servers) ≡ most
-  -- a server stands behind servers of lesser identity only: identities rise, each stands once, and empty places come last
+  -- a server stands behind servers of lesser identity only: identities rise, each stands once, and
+  -- empty places come last
   pub rising :
       (i j : ℕ) → i < j → j < most → 0 < serverAt t j .identity →
       (0 < serverAt t i .identity) × (serverAt t i .identity < serverAt t j .identity)
@@ -72,11 +74,13 @@ pub record HearsInOrder (c : State) (j : ℕ) : Type 0 where
   pub once : (m n : ℕ) → m < n → n < length (senders c j) → senderAt c j m ≢ senderAt c j n
   pub falling : (m n : ℕ) → m < n → n < length (senders c j) → over c (senderAt c j m) (senderAt c j n) ≡ true
 
--- so it is wherever senders differ; calls reach no other channel (`SendersAlwaysDiffer` of the crate settling)
+-- so it is wherever senders differ; calls reach no other channel (`SendersAlwaysDiffer` of the
+-- crate settling)
 abbrev pub AllHearInOrder : Type 0
 AllHearInOrder = (c : State) → SendersDiffer c → (j : ℕ) → HearsInOrder c j
 
--- "heard in frame t + 1": what is sent in a frame is not heard in it. Where nobody sent in the frame before, a server only has its timers
+-- "heard in frame t + 1": what is sent in a frame is not heard in it. Where nobody sent in the
+-- frame before, a server only has its timers
 abbrev pub NothingSentNothingHeard : Type 0
 NothingSentNothingHeard =
     (c : State) → ((i : ℕ) → i < most → sentAny (place c i) ≡ false) → (t j : ℕ) (s : Server) → hearing c t j s ≡ cleared s
@@ -104,7 +108,8 @@ pub record WritesItsLines (c : State) (k : Call) : Type 0 where
   pub slice : callSlice c k ≡ callLines c k ++ drop (length (callLines c k)) (sliceOf k)
   pub written : callWritten c k ≡ length (callLines c k)
 
--- an accepted call writes its lines to the front of its slice, which has room for them, and leaves the rest as it was
+-- an accepted call writes its lines to the front of its slice, which has room for them, and leaves
+-- the rest as it was
 abbrev pub AcceptedWritesItsLines : Type 0
 AcceptedWritesItsLines = (c : State) (k : Call) → callNumber c k ≡ 0 → WritesItsLines c k
 
@@ -113,7 +118,8 @@ pub record KeepsItsTable (c d : State) : Type 0 where
   pub places : length (d .servers) ≡ length (c .servers)
   pub ranks : (i : ℕ) → rankOf (place d i) ≡ rankOf (place c i)
 
--- after any call the period is the same, there are as many places, and each has the same identity and priority
+-- after any call the period is the same, there are as many places, and each has the same identity
+-- and priority
 abbrev pub EveryCallKeepsTheTable : Type 0
 EveryCallKeepsTheTable = (c : State) (k : Call) → KeepsItsTable c (callChannel c k)
 
@@ -123,11 +129,13 @@ frameThen c (verb v a b d) = c .frame
 frameThen c (advance d) = c .frame + 1
 frameThen c (advanceTo t d) = t
 
--- an accepted verb leaves the frame, an accepted advance makes it one more, one to a time makes it that time; a refused call leaves it
+-- an accepted verb leaves the frame, an accepted advance makes it one more, one to a time makes it
+-- that time; a refused call leaves it
 abbrev pub FramesCounted : Type 0
 FramesCounted = (c : State) (k : Call) → callChannel c k .frame ≡ choose (eqb (callNumber c k) 0) (frameThen c k) (c .frame)
 
--- a verb, accepted or not, changes no server but the acting one: neither its role nor anything else of it
+-- a verb, accepted or not, changes no server but the acting one: neither its role nor anything else
+-- of it
 abbrev pub OthersStay : Type 0
 OthersStay = (c : State) (v : Verb) (a b : ℕ) (d : List ℕ) (i : ℕ) → i ≢ placeOf c a → place (callChannel c (verb v a b d)) i ≡ place c i
 
@@ -164,7 +172,8 @@ pub record IsAll (c : State) (k : Call) (ks : List Call) : Type 0 where
   pub channel : callChannel c k ≡ channelAfter c ks
   pub lines : callLines c k ≡ linesAfter c ks
 
--- "an accepted one over several frames is as many advances": with the same slice, all of them are accepted
+-- "an accepted one over several frames is as many advances": with the same slice, all of them are
+-- accepted
 abbrev pub AsManyAdvances : Type 0
 AsManyAdvances =
     (c : State) (t : ℕ) (d : List ℕ) → callNumber c (advanceTo t d) ≡ 0 →
@@ -176,7 +185,8 @@ pub record AreAdvances (c : State) (n : ℕ) (d : List ℕ) : Type 0 where
   pub channel : channelAfter c (replicate n (advance d)) ≡ advancedBy n c
   pub lines : linesAfter c (replicate n (advance d)) ≡ linesBy n c
 
--- so are the frames of an advance within a slice: what it hands back, a list of calls could have. They are no more than asked for, and their lines fit
+-- so are the frames of an advance within a slice: what it hands back, a list of calls could have.
+-- They are no more than asked for, and their lines fit
 abbrev pub WithinIsAdvances : Type 0
 WithinIsAdvances =
     (c : State) (t : ℕ) (d : List ℕ) → withinOutcome c t (length d) .number ≡ 0 →

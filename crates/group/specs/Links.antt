@@ -33,6 +33,7 @@ unfoldable pub cutAfter : ℕ → ℕ → State → List Call → Bool → Bool
 cutAfter a b c [] was = was
 cutAfter a b c (k ∷ ks) was = cutAfter a b (callChannel c k) ks (choose (eqb (callNumber c k) 0) (cutByCall a b k was) was)
 
--- (demand 3) "after the list no link is cut": after the calls ks on the channel c, in which none was
+-- (demand 3) "after the list no link is cut": after the calls ks on the channel c, in which none
+-- was
 abbrev pub NoLinkCut : State → List Call → Type 0
 NoLinkCut c ks = (a b : ℕ) → cutAfter a b c ks false ≡ false

@@ -7,14 +7,16 @@ use Rattle.lists.specs.Choice.{choose}
 use Rattle.lists.specs.Splice.{splice}
 use Rattle.group.specs.declared.State.{State}
 
--- a call with a lent slice that is long enough: the number that it gets (0: none), the lines that it writes and the next channel.
--- Where it gets a number, the other two mean nothing and are not looked at
+-- a call with a lent slice that is long enough: the number that it gets (0: none), the lines that
+-- it writes and the next channel. Where it gets a number, the other two mean nothing and are not
+-- looked at
 pub record Outcome : Type 0 where
   pub number : ℕ
   pub lines : List ℕ
   pub channel : State
 
--- the number with a lent slice of n bytes: "9. The lent output slice is shorter than what the call would otherwise write."
+-- the number with a lent slice of n bytes: "9. The lent output slice is shorter than what the call
+-- would otherwise write."
 unfoldable pub numberIn : Outcome → ℕ → ℕ
 numberIn o n = choose (eqb (o .number) 0) (choose (leb (length (o .lines)) n) 0 9) (o .number)
 

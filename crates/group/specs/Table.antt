@@ -18,8 +18,9 @@ use Rattle.group.specs.declared.State.{State}
 abbrev pub most : ℕ
 most = 16
 
--- The table of no server; every table is made from it by adding servers (`isTable`, below). "Each has an identity 1..65,535 .. and a
--- priority 0..255.": no greater ones can stand in the struct, by its types
+-- The table of no server; every table is made from it by adding servers (`isTable`, below). "Each
+-- has an identity 1..65,535 .. and a priority 0..255.": no greater ones can stand in the struct, by
+-- its types
 abbrev pub empty : Table
 empty = record { servers = replicate most absent }
 
@@ -77,7 +78,8 @@ unfoldable pub rises : List Server → Bool
 rises [] = true
 rises (s ∷ l) = leads s l && rises l
 
--- Adding makes these servers: sixteen places, in rising identity, empty ones last, each as it was added. (That it makes these and no others is the law `AddingMakes`.)
+-- Adding makes these servers: sixteen places, in rising identity, empty ones last, each as it was
+-- added. (That it makes these and no others is the law `AddingMakes`.)
 unfoldable pub isTable : List Server → Bool
 isTable l = eqb (length l) most && (every isNew l && rises l)
 
@@ -87,12 +89,14 @@ tableWith l = choose (isTable l) (record { servers = l }) empty
 
 -- ---- a server added
 
--- 2 for identity 0, and for servers that adding does not make, which no caller can hold in a Table. "5. Identity already in the table." "6. A seventeenth server"
+-- 2 for identity 0, and for servers that adding does not make, which no caller can hold in a Table.
+-- "5. Identity already in the table." "6. A seventeenth server"
 unfoldable pub addRefusal : Table → ℕ → ℕ
 addRefusal t i =
     choose (isTable (t .servers) && not (eqb i 0)) (choose (isIn (t .servers) i) 5 (choose (leb most (counted (t .servers))) 6 0)) 2
 
--- the table after a server is added, idle and with nothing sent (`idle`); the same where it is refused
+-- the table after a server is added, idle and with nothing sent (`idle`); the same where it is
+-- refused
 unfoldable pub added : Table → ℕ → ℕ → Table
 added t i p = choose (eqb (addRefusal t i) 0) (record { servers = enter (idle i p) (t .servers) }) t
 
@@ -107,7 +111,8 @@ tableOf rs = withServers empty rs
 
 -- ---- the fresh channel
 
--- "2. A number .. out of range.", and servers that adding does not make. "6. .. no server" "7. P below the number of servers"
+-- "2. A number .. out of range.", and servers that adding does not make. "6. .. no server" "7. P
+-- below the number of servers"
 unfoldable pub freshRefusal : Table → ℕ → ℕ
 freshRefusal t n =
     choose (isTable (t .servers) && eqb (takePeriod n .number) 0)

@@ -18,10 +18,12 @@ ghost use Rattle.group.specs.Answers.{Adds, Takes, noChannel, Opens};
 // A place for each server that a channel may have.
 pub type Servers = [Server; Table::SERVERS];
 
-// The links between them, true where they are whole: the one from place i to place j is at Table::SERVERS * i + j.
+// The links between them, true where they are whole: the one from place i to place j is at
+// Table::SERVERS * i + j.
 pub type Links = [bool; Table::LINKS];
 
-// The servers of a channel in rising identity; empty places, of identity 0, come last. Made by `empty` and `add`; `of` takes the servers of one that they made.
+// The servers of a channel in rising identity; empty places, of identity 0, come last. Made by
+// `empty` and `add`; `of` takes the servers of one that they made.
 pub struct Table {
     servers: Servers,
 }
@@ -201,7 +203,8 @@ impl Table {
         Table { servers }
     }
 
-    // The table that has these servers; 2, and the table of no server, where adding does not make them.
+    // The table that has these servers; 2, and the table of no server, where adding does not make
+    // them.
     pub fn of(servers: Servers) -> Added
         ensures { λ r. ⌜ Takes servers r ⌝ }
     {

@@ -1,5 +1,5 @@
--- `higher` is strict and transitive, and of two different identities one is higher. What needs an order of servers goes by these
--- laws and not by the text of `higher`. Assumes nothing.
+-- `higher` is strict and transitive, and of two different identities one is higher. What needs an
+-- order of servers goes by these laws and not by the text of `higher`. Assumes nothing.
 use mathlib.Core.Bool.{true, false}
 use mathlib.Core.Path.{_≡_, refl, sym, _∙_}
 use mathlib.Core.Logic.{_⊎_, inl, inr, ⊎-elim}

@@ -44,7 +44,8 @@ greatestReveal = 255
 abbrev pub readReveal : List ℕ → Answer
 readReveal s = readNumber 0 greatestReveal s
 
--- "BS .., Priority .., TieBreaker .., Reveal ..", "Fields are tested left to right for 2". The TieBreaker is an identity
+-- "BS .., Priority .., TieBreaker .., Reveal ..", "Fields are tested left to right for 2". The
+-- TieBreaker is an identity
 unfoldable pub readFields : List ℕ → Answer
 readFields s = inTurn (readBS (field s 0)) (inTurn (readPriority (field s 1)) (inTurn (readIdentity (field s 2)) (readReveal (field s 3))))
 

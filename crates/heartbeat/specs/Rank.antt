@@ -24,7 +24,8 @@ readIdentity s = readNumber leastIdentity greatestIdentity s
 abbrev pub readPriority : List ℕ → Answer
 readPriority s = readNumber 0 greatestPriority s
 
--- a is higher than b: "Of two servers the one with greater priority is higher; with equal priority, the one with greater identity."
+-- a is higher than b: "Of two servers the one with greater priority is higher; with equal priority,
+-- the one with greater identity."
 unfoldable pub higher : Rank → Rank → Bool
 higher a b = choose (eqb (a .priority) (b .priority)) (ltb (b .identity) (a .identity)) (ltb (b .priority) (a .priority))
 

@@ -1,5 +1,5 @@
-// Asks the leaf functions the cases of the file `cases` and prints an answer line for each. The head of make.py tells the
-// forms of a case and of its answer.
+// Asks the leaf functions the cases of the file `cases` and prints an answer line for each. The
+// head of make.py tells the forms of a case and of its answer.
 use heartbeat::Heartbeat;
 use heartbeat::HeartbeatAnswer;
 use heartbeat::Rank;
@@ -244,7 +244,8 @@ fn write(letter: u8, s: &[u8], slice: &mut [u8], at: usize, out: &mut [u8]) -> W
     }
 }
 
-// w LENGTH AT NUMBER, s LENGTH AT TEXT, g LENGTH AT FRAME, b LENGTH AT BS PRIORITY TIEBREAKER REVEAL
+// w LENGTH AT NUMBER, s LENGTH AT TEXT, g LENGTH AT FRAME, b LENGTH AT BS PRIORITY TIEBREAKER
+// REVEAL
 fn write_into(letter: u8, s: &[u8], out: &mut [u8]) -> Written {
     let s2 = text::after_field(s);
     let length = Arg::first(text::first_field(s), 64);

@@ -38,7 +38,8 @@ longest = 27
 abbrev pub refusedWord : ℕ → List ℕ
 refusedWord n = bytes "refused-" ++ digits n
 
--- "the sheet line of a refusal": of a call of server i in frame t. Document 01 has it for refusals of calls; on those of input it is silent
+-- "the sheet line of a refusal": of a call of server i in frame t. Document 01 has it for refusals
+-- of calls; on those of input it is silent
 abbrev pub refusedLine : ℕ → ℕ → Refusal → List ℕ
 refusedLine t i r = line t i (refusedWord (numberOf r))
 
@@ -46,8 +47,8 @@ refusedLine t i r = line t i (refusedWord (numberOf r))
 unfoldable pub placeAfter : List ℕ → ℕ → List ℕ → ℕ
 placeAfter d at w = choose (fits d at w) (at + length w) (length d + 1)
 
--- Lines w said at a place of the lent slice d: r is the place after them, d′ the slice afterwards. They are written if wet is set, and if they
--- fit; otherwise no byte is changed
+-- Lines w said at a place of the lent slice d: r is the place after them, d′ the slice afterwards.
+-- They are written if wet is set, and if they fit; otherwise no byte is changed
 pub record Says (wet : Bool) (d : List ℕ) (at : ℕ) (w : List ℕ) (r : ℕ) (d′ : List ℕ) : Type 0 where
   pub place : r ≡ placeAfter d at w
   pub slice : d′ ≡ choose (wet && fits d at w) (splice d at w) d

@@ -119,7 +119,8 @@ fn put_two(out: &mut [u8], at: usize, frame: u32, identity: u16, v: Word, w: Wor
 
 // ---- the lines about a server
 
-// The place after n bytes in a slice that has `end` of them; one past the end where they do not fit.
+// The place after n bytes in a slice that has `end` of them; one past the end where they do not
+// fit.
 fn place(end: usize, at: usize, n: usize) -> usize
     requires { ⌜ end + 1 < 2 ^ 64 ⌝ }
     ensures { λ r. ⌜ r ≡ choose (roomFor end at n) (at + n) (end + 1) ⌝ }
@@ -162,8 +163,9 @@ fn write(out: &mut [u8], at: usize, frame: u32, identity: u16, said: Said) -> us
     }
 }
 
-// The lines of what happened to a server, if they fit: written at the place, or only counted where `wet` is not set. Answers the place after
-// them; one past the end of the slice where they do not fit, and then no byte is changed.
+// The lines of what happened to a server, if they fit: written at the place, or only counted where
+// `wet` is not set. Answers the place after them; one past the end of the slice where they do not
+// fit, and then no byte is changed.
 pub fn say(out: &mut [u8], wet: bool, at: usize, frame: u32, identity: u16, said: Said) -> usize
     ensures { λ r. ⌜ Says wet (now (out .entry)) at (linesOf frame identity said) r (now (out .exit)) ⌝ }
 {

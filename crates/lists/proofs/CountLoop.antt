@@ -1,5 +1,5 @@
--- A loop that counts the parts of s that c parts. Assumes nothing.
---     begin: no turn made, one part; here: c at i; later: another element at i; end: the loop is over
+-- A loop that counts the parts of s that c parts. Assumes nothing. begin: no turn made, one part;
+-- here: c at i; later: another element at i; end: the loop is over
 use mathlib.Core.Path.{_≡_}
 use mathlib.Core.List.{List}
 use Prim.Native.Nat.{ℕ, _+_, _≤_, _<_}

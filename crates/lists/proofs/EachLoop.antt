@@ -1,4 +1,5 @@
--- Loops over the n elements of an array: one that tests each, and one that makes another array of them. Assumes nothing.
+-- Loops over the n elements of an array: one that tests each, and one that makes another array of
+-- them. Assumes nothing.
 use mathlib.Core.Bool.{Bool, true, false, _&&_}
 use mathlib.Core.Path.{_≡_, refl, sym, ap, _∙_}
 use mathlib.Core.Logic.{⊎-elim}

@@ -1,4 +1,5 @@
--- A loop that replaces each of the n elements of l by what f says of its place and of it, one a turn. Assumes nothing.
+-- A loop that replaces each of the n elements of l by what f says of its place and of it, one a
+-- turn. Assumes nothing.
 use mathlib.Core.Path.{_≡_, refl, sym, ap, ap₂, _∙_}
 use mathlib.Core.List.{List, [], _∷_, _++_}
 use Prim.Native.Nat.{ℕ, zero, suc, _+_, _<_, _≤_}

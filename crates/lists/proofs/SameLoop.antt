@@ -1,5 +1,5 @@
--- `same` says that two lists are equal, and a loop that compares them place by place. Assumes nothing.
---     begin: no turn made; turn: equal at i; differ: not equal at i; end: the loop is over
+-- `same` says that two lists are equal, and a loop that compares them place by place. Assumes
+-- nothing. begin: no turn made; turn: equal at i; differ: not equal at i; end: the loop is over
 use mathlib.Core.Bool.{true, false, _&&_}
 use mathlib.Core.Path.{_≡_, refl, sym, ap, ap₂, _∙_}
 use mathlib.Core.List.{List, [], _∷_}

@@ -42,7 +42,8 @@ abbrev pub onFirst : ℕ → List (List ℕ) → List (List ℕ)
 onFirst x [] = (x ∷ []) ∷ []
 onFirst x (l ∷ ls) = (x ∷ l) ∷ ls
 
--- the parts of a list between its elements c, empty parts too: always one part more than there are elements c
+-- the parts of a list between its elements c, empty parts too: always one part more than there are
+-- elements c
 unfoldable pub splitOn : ℕ → List ℕ → List (List ℕ)
 splitOn c [] = [] ∷ []
 splitOn c (x ∷ s) = elim (eqb x c) [ true ↦ [] ∷ splitOn c s | false ↦ onFirst x (splitOn c s) ]

@@ -1,4 +1,5 @@
--- Which place hears which, and which comes first, over the ranks of all places as numbers and the links.
+-- Which place hears which, and which comes first, over the ranks of all places as numbers and the
+-- links.
 use mathlib.Core.Bool.{Bool, true, false, not, _&&_}
 use mathlib.Core.List.{List}
 use Prim.Native.Nat.{ℕ}
@@ -11,7 +12,8 @@ use Rattle.group.specs.Hearing.{linkOf, isPlace}
 abbrev pub overBy : List ℕ → ℕ → ℕ → Bool
 overBy ranks a b = ltb (getD ranks b 0) (getD ranks a 0)
 
--- place i, if it is heard, comes after the place last and before the best so far; 16 or more for either is none, and leaves its side open
+-- place i, if it is heard, comes after the place last and before the best so far; 16 or more for
+-- either is none, and leaves its side open
 abbrev pub comesBy : List ℕ → Bool → ℕ → ℕ → ℕ → Bool
 comesBy ranks heard last best i =
     heard && (choose (isPlace last) (overBy ranks last i) true && choose (isPlace best) (overBy ranks i best) true)

@@ -1,4 +1,5 @@
--- Servers as numbers, five a server. An array of numbers can be lent and changed in place, where an array of servers would be copied.
+-- Servers as numbers, five a server. An array of numbers can be lent and changed in place, where an
+-- array of servers would be copied.
 use mathlib.Core.List.{List, [], _∷_, _++_}
 use mathlib.Core.Path.{_≡_}
 use Prim.Native.Nat.{ℕ, zero, suc, _+_, _*_, _/_, _%_}
@@ -22,14 +23,16 @@ each = 5
 abbrev pub packed : ℕ
 packed = each * most
 
--- in a rank, and in a head: identities are below the first; a priority counts by it, a role by the second, which is 256 times the first
+-- in a rank, and in a head: identities are below the first; a priority counts by it, a role by the
+-- second, which is 256 times the first
 abbrev pub priorityUnit : ℕ
 priorityUnit = 65536
 
 abbrev pub roleUnit : ℕ
 roleUnit = 16777216
 
--- in what was sent: identities are below the first; a reveal counts by it, plain beats by the second, which is twice the first; all of it is below the third, 256 times the second
+-- in what was sent: identities are below the first; a reveal counts by it, plain beats by the
+-- second, which is twice the first; all of it is below the third, 256 times the second
 abbrev pub revealUnit : ℕ
 revealUnit = 65536
 
@@ -100,7 +103,8 @@ wordsOf (s ∷ l) = serverNumbers s ++ wordsOf l
 abbrev pub putAt : List ℕ → ℕ → Server → List ℕ
 putAt w i s = splice w (each * i) (serverNumbers s)
 
--- numbers that are those of their servers: of the numbers that stand for the same servers, one list. `words_of` makes such, and whatever changes numbers keeps them so
+-- numbers that are those of their servers: of the numbers that stand for the same servers, one
+-- list. `words_of` makes such, and whatever changes numbers keeps them so
 abbrev pub Canonical : List ℕ → Type 0
 Canonical w = w ≡ wordsOf (serversOf w)
 

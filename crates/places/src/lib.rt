@@ -83,7 +83,8 @@ pub fn is_still(s: Server) -> bool
 
 // ---- servers as numbers
 
-// Numbers for each server: its head, which is its role and its rank, its three timers, and what it sent in this frame.
+// Numbers for each server: its head, which is its role and its rank, its three timers, and what it
+// sent in this frame.
 pub const EACH: usize = 5;
 
 // Where they stand among the numbers of their server; the head comes first.
@@ -233,7 +234,8 @@ pub fn server(words: &Packed, i: usize) -> Server
     }
 }
 
-// The server of place i replaced; nothing beyond the last place. `held` is what the numbers are: passed by value, it has their length.
+// The server of place i replaced; nothing beyond the last place. `held` is what the numbers are:
+// passed by value, it has their length.
 fn put_held(words: &mut Packed, held: Packed, i: usize, s: Server)
     requires { ⌜ now words ≡ held ⌝ }
     ensures { λ _. ⌜ Puts (now (words .entry)) i s (now (words .exit)) ⌝ }
@@ -314,7 +316,8 @@ fn better_of(ranks: &[u32; Table::SERVERS], last: usize, best: usize, i: usize) 
     }
 }
 
-// Of place i, which is heard, and the best so far: the one that is heard sooner after the place last. Where i is no place (16 or more), the best so far.
+// Of place i, which is heard, and the best so far: the one that is heard sooner after the place
+// last. Where i is no place (16 or more), the best so far.
 pub fn better(ranks: &[u32; Table::SERVERS], last: usize, best: usize, i: usize) -> usize
     ensures { λ r. ⌜ r ≡ betterOf (now (ranks .entry)) last best i ⌝ }
 {

@@ -27,7 +27,8 @@ pub record Back {A P : Type 0} (is : P → Bool) (of : P → A) (plain : A → P
   pub decodes : is (plain x) ≡ true
   pub same : of (plain x) ≡ x
 
--- of every value; of tables those that adding makes; of fronts and channels those whose period is in its range, as every `Period` is that can be made; of heartbeats those that a line can have
+-- of every value; of tables those that adding makes; of fronts and channels those whose period is
+-- in its range, as every `Period` is that can be made; of heartbeats those that a line can have
 pub record RoundTrips : Type 0 where
   pub server : (s : Server) → Back isServer serverOf plainServer s
   pub front : (f : Front) → isPeriod (f .period .frames) ≡ true → Back isFront frontOf plainFront f

@@ -1,4 +1,5 @@
--- Roles, verbs, events, refusals and periods by number. Each has a test of the numbers that decode; of any other number the value means nothing.
+-- Roles, verbs, events, refusals and periods by number. Each has a test of the numbers that decode;
+-- of any other number the value means nothing.
 use mathlib.Core.Bool.{Bool, not, _&&_}
 use Prim.Native.Nat.{ℕ}
 use lib.Dec.{leb, eqb}
@@ -16,7 +17,8 @@ use Rattle.periods.specs.Period.{leastPeriod, greatestPeriod, shortest}
 abbrev pub isBit : ℕ → Bool
 isBit n = leb n 1
 
--- roles, 0 to 5: the number is `roleNumber` of the crate server, the role `roleOf` of the crate places
+-- roles, 0 to 5: the number is `roleNumber` of the crate server, the role `roleOf` of the crate
+-- places
 abbrev pub isRole : ℕ → Bool
 isRole n = leb n 5
 

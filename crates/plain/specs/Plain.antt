@@ -1,4 +1,5 @@
--- The engine's values as plain integers: of each struct which values decode (`is..`), what they stand for (`..Of`), and how a value is encoded (`plain..`).
+-- The engine's values as plain integers: of each struct which values decode (`is..`), what they
+-- stand for (`..Of`), and how a value is encoded (`plain..`).
 use mathlib.Core.Bool.{Bool, _&&_}
 use mathlib.Core.List.{map}
 use Prim.Native.Nat.{ℕ}
@@ -31,8 +32,9 @@ bitOf n = eqb n 1
 abbrev pub plainBit : Bool → ℕ
 plainBit t = choose t 1 0
 
--- What decodes is a value of the engine, not always one that calls reach: a server of identity 0, a frame beyond the day. Document 01 is
--- silent on such values; they get the answers of the same definitions
+-- What decodes is a value of the engine, not always one that calls reach: a server of identity 0, a
+-- frame beyond the day. Document 01 is silent on such values; they get the answers of the same
+-- definitions
 
 -- ---- a server
 

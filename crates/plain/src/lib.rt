@@ -1,4 +1,5 @@
-// The engine's values as structs of plain integers, for a caller in C or Rust: what decodes, what it stands for, and how a value is encoded.
+// The engine's values as structs of plain integers, for a caller in C or Rust: what decodes, what
+// it stands for, and how a value is encoded.
 use front::Front;
 use group::Links;
 use group::Servers;
@@ -19,9 +20,10 @@ ghost use Rattle.refusal.specs.Answer.{ofVerdict};
 ghost use Rattle.plain.specs.Numbers.{isBit, isVerb, verbOf, isEvent, eventNumber, eventOf, isRefusal, refusalOf, isPeriod, periodOf};
 ghost use Rattle.plain.specs.Plain.{plainBit, bitOf, isServer, serverOf, plainServer, noServer, isFront, frontOf, plainFront, noFront, isHeartbeat, heartbeatOf, plainHeartbeat, noHeartbeat, isTable, tableOf, plainTable, isChannel, channelOf, plainChannel, noChannel};
 
-// One server. `role` is 0 down, 1 idle, 2 sync, 3 backup, 4 prospect, 5 primary. `silence`, `beat` and `prospect` are the frames in which
-// its timers were set. `pass`, `beats` and `reveal` are what it sent in this frame: the identity passed to (0: none), how many plain
-// beats, and a reveal (1) or none (0). An empty place has identity 0.
+// One server. `role` is 0 down, 1 idle, 2 sync, 3 backup, 4 prospect, 5 primary. `silence`, `beat`
+// and `prospect` are the frames in which its timers were set. `pass`, `beats` and `reveal` are what
+// it sent in this frame: the identity passed to (0: none), how many plain beats, and a reveal (1)
+// or none (0). An empty place has identity 0.
 #[repr(C)]
 pub struct PlainServer {
     pub identity: u16,
@@ -43,7 +45,8 @@ pub struct PlainFront {
     pub period: u32,
 }
 
-// A heartbeat: who is to become primary (0: nobody), the sender's identity, 1 to 65,535, and priority, and Reveal, which any number but 0 sets.
+// A heartbeat: who is to become primary (0: nobody), the sender's identity, 1 to 65,535, and
+// priority, and Reveal, which any number but 0 sets.
 #[repr(C)]
 pub struct PlainHeartbeat {
     pub bs: u16,
@@ -52,7 +55,8 @@ pub struct PlainHeartbeat {
     pub reveal: u8,
 }
 
-// The servers of a channel, in rising identity; empty places, of identity 0, come last. Made by `playout_table_empty` and `playout_table_add`.
+// The servers of a channel, in rising identity; empty places, of identity 0, come last. Made by
+// `playout_table_empty` and `playout_table_add`.
 #[repr(C)]
 pub struct PlainTable {
     pub servers: [PlainServer; Table::SERVERS],
@@ -112,7 +116,8 @@ pub fn is_event(n: u32) -> bool
     n <= 10
 }
 
-// The event of a number; from 10 on, passed. `to` is the identity passed to, which no other event has.
+// The event of a number; from 10 on, passed. `to` is the identity passed to, which no other event
+// has.
 pub fn event_of(n: u32, to: u16) -> Event
     ensures { λ r. ⌜ r ≡ eventOf n to ⌝ }
 {

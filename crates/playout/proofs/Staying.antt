@@ -1,4 +1,5 @@
--- The law of specs/Laws.antt: periods never change, and all else that is encoded decodes. Assumes nothing.
+-- The law of specs/Laws.antt: periods never change, and all else that is encoded decodes. Assumes
+-- nothing.
 use mathlib.Core.Bool.{Bool, true, not, _&&_}
 use mathlib.Core.List.{map}
 use mathlib.Core.Path.{_≡_, refl, sym, ap, _∙_}

@@ -1,4 +1,5 @@
--- The plain front, what its functions take and answer, and what its steps return, as types of plain data. Assumes nothing.
+-- The plain front, what its functions take and answer, and what its steps return, as types of plain
+-- data. Assumes nothing.
 use mir.Syntax.{w16, w32}
 use denote.Struct.Laws as LL
 use Rattle.front.proofs.Data.{Data, ofStruct, ofWidth, After}

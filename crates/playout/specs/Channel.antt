@@ -38,7 +38,8 @@ pub record Opens (p : PlainTable) (n : ℕ) (r : ChannelOpened) : Type 0 where
 unfoldable pub checked : Bool → Outcome → Outcome
 checked ok o = record { number = choose ok (o .number) ill; lines = o .lines; channel = o .channel }
 
--- a call on the channel p with the lent slice d, and with the outcome o where ok holds: its answer, and the slice afterwards. Where it is refused, the same channel
+-- a call on the channel p with the lent slice d, and with the outcome o where ok holds: its answer,
+-- and the slice afterwards. Where it is refused, the same channel
 pub record Answers (ok : Bool) (p : PlainChannel) (o : Outcome) (d : List ℕ) (r : ChannelAnswered) (d′ : List ℕ) : Type 0 where
   pub number : r .number ≡ numberIn (checked ok o) (length d)
   pub written : r .written ≡ writtenIn (checked ok o) (length d)

@@ -37,7 +37,8 @@ frontMade i q n = choose (not (eqb i 0) && isPeriod n) (record { number = 0; fro
 
 -- ---- its steps: of each the front p before it, its answer r, and the front p′ after it
 
--- the number that the next frame gets: 2 for a front that does not decode, 16 from the day's last frame on
+-- the number that the next frame gets: 2 for a front that does not decode, 16 from the day's last
+-- frame on
 unfoldable pub beginNumber : PlainFront → ℕ
 beginNumber p = choose (isFront p) (choose (goesOn (frontOf p)) 0 16) ill
 

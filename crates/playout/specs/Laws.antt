@@ -1,4 +1,5 @@
--- The empty table, with what holds of all plain values and all calls: what is handed back can be handed in. proofs/Staying.antt proves it.
+-- The empty table, with what holds of all plain values and all calls: what is handed back can be
+-- handed in. proofs/Staying.antt proves it.
 use mathlib.Core.Bool.{true, _&&_}
 use mathlib.Core.List.{List}
 use mathlib.Core.Path.{_≡_}
@@ -23,7 +24,8 @@ use Rattle.playout.specs.Front.{frontMade, Begins, Hears, Ticks, Acts}
 use Rattle.playout.specs.Channel.{Adds, Opens, Answers}
 use Rattle.playout.specs.Chains.{PlainCallsSettle}
 
--- what is made decodes, and what decodes does so after every step of a front and every call, also one that is refused
+-- what is made decodes, and what decodes does so after every step of a front and every call, also
+-- one that is refused
 pub record StaysPlain : Type 0 where
   pub made : (i q n : ℕ) → frontMade i q n .number ≡ 0 → isFront (frontMade i q n .front) ≡ true
   pub begins : (p : PlainFront) (n : ℕ) (p′ : PlainFront) → isFront p ≡ true → Begins p n p′ → isFront p′ ≡ true

@@ -23,7 +23,8 @@ use Rattle.playout.specs.declared.TimecodeRead.{TimecodeRead}
 abbrev pub writtenOf : Answer → PlainWritten
 writtenOf a = record { number = a .number; written = getD (a .values) 0 0 }
 
--- a call that writes the bytes w from the start of the slice d, or gets 9: its answer, and the slice afterwards
+-- a call that writes the bytes w from the start of the slice d, or gets 9: its answer, and the
+-- slice afterwards
 pub record Puts (d w : List ℕ) (r : PlainWritten) (d′ : List ℕ) : Type 0 where
   pub answer : r ≡ writtenOf (writing d 0 w)
   pub slice : d′ ≡ wrote d 0 w

@@ -1,6 +1,8 @@
-// The engine for a caller in C or Rust. Structs are plain integers; a slice is a pointer and a length. Every call takes any bytes: what does not
-// decode is refused with 2, before every other number (`playout_higher`, which has no number, takes any tiebreaker). A refused call changes nothing that was
-// lent, and hands back the table or channel that it would have moved on; what it would have made is zeros.
+// The engine for a caller in C or Rust. Structs are plain integers; a slice is a pointer and a
+// length. Every call takes any bytes: what does not decode is refused with 2, before every other
+// number (`playout_higher`, which has no number, takes any tiebreaker). A refused call changes
+// nothing that was lent, and hands back the table or channel that it would have moved on; what it
+// would have made is zeros.
 use channel::Answer;
 use channel::Channel;
 use front::FrontAnswer;
@@ -47,9 +49,10 @@ pub struct FrontMade {
     pub front: PlainFront,
 }
 
-// What a heartbeat did. `number` is 0 where it is accepted, else the refusal's, and the rest is 0. `event` is 0 nothing, 1 to backup, 2 to
-// prospect with a beat, 3 to prospect with a reveal, 4 lower, 5 beat, 6 to primary, 7 to sync, 8 to idle, 9 to down, 10 passed. `role` is
-// the role afterwards.
+// What a heartbeat did. `number` is 0 where it is accepted, else the refusal's, and the rest is 0.
+// `event` is 0 nothing, 1 to backup, 2 to prospect with a beat, 3 to prospect with a reveal, 4
+// lower, 5 beat, 6 to primary, 7 to sync, 8 to idle, 9 to down, 10 passed. `role` is the role
+// afterwards.
 #[repr(C)]
 pub struct FrontHeard {
     pub number: u32,
@@ -57,8 +60,9 @@ pub struct FrontHeard {
     pub role: u32,
 }
 
-// What the timers did: the events of the silence timer, of the beat timer and of the prospect timer, in this order, and the role
-// afterwards. `number` is 0 where it is accepted, else the refusal's, and the rest is 0.
+// What the timers did: the events of the silence timer, of the beat timer and of the prospect
+// timer, in this order, and the role afterwards. `number` is 0 where it is accepted, else the
+// refusal's, and the rest is 0.
 #[repr(C)]
 pub struct FrontTimed {
     pub number: u32,
@@ -68,7 +72,8 @@ pub struct FrontTimed {
     pub role: u32,
 }
 
-// What a verb did: its event, and the role afterwards. `number` is 0 where it is accepted, else the refusal's, and the rest is 0.
+// What a verb did: its event, and the role afterwards. `number` is 0 where it is accepted, else the
+// refusal's, and the rest is 0.
 #[repr(C)]
 pub struct FrontActed {
     pub number: u32,
@@ -76,8 +81,8 @@ pub struct FrontActed {
     pub role: u32,
 }
 
-// What an event sends: `count` is 1 where there is a heartbeat, else 0, and the heartbeat is zeros. `number` is 0 where it is accepted,
-// else the refusal's, and the rest is 0.
+// What an event sends: `count` is 1 where there is a heartbeat, else 0, and the heartbeat is zeros.
+// `number` is 0 where it is accepted, else the refusal's, and the rest is 0.
 #[repr(C)]
 pub struct Sending {
     pub number: u32,
@@ -85,44 +90,48 @@ pub struct Sending {
     pub heartbeat: PlainHeartbeat,
 }
 
-// What was written: so many bytes, from the slice's start. `number` is 0 where it is accepted, else the refusal's, and then nothing is
-// written.
+// What was written: so many bytes, from the slice's start. `number` is 0 where it is accepted, else
+// the refusal's, and then nothing is written.
 #[repr(C)]
 pub struct PlainWritten {
     pub number: u32,
     pub written: usize,
 }
 
-// A heartbeat that was read. `number` is 0 where it is accepted, else the refusal's, and the heartbeat is zeros.
+// A heartbeat that was read. `number` is 0 where it is accepted, else the refusal's, and the
+// heartbeat is zeros.
 #[repr(C)]
 pub struct HeartbeatRead {
     pub number: u32,
     pub heartbeat: PlainHeartbeat,
 }
 
-// A frame that was read. `number` is 0 where it is accepted, else the refusal's, and the frame is 0.
+// A frame that was read. `number` is 0 where it is accepted, else the refusal's, and the frame is
+// 0.
 #[repr(C)]
 pub struct TimecodeRead {
     pub number: u32,
     pub frame: u32,
 }
 
-// A table after a server is added. `number` is 0 where it is accepted, else the refusal's, and the table is the one handed in.
+// A table after a server is added. `number` is 0 where it is accepted, else the refusal's, and the
+// table is the one handed in.
 #[repr(C)]
 pub struct TableAdded {
     pub number: u32,
     pub table: PlainTable,
 }
 
-// A fresh channel. `number` is 0 where it is accepted, else the refusal's, and the channel is zeros.
+// A fresh channel. `number` is 0 where it is accepted, else the refusal's, and the channel is
+// zeros.
 #[repr(C)]
 pub struct ChannelOpened {
     pub number: u32,
     pub channel: PlainChannel,
 }
 
-// A channel after a call, and how many bytes of lines it wrote. `number` is 0 where it is accepted, else the refusal's; then nothing is
-// written, and the channel is the one handed in.
+// A channel after a call, and how many bytes of lines it wrote. `number` is 0 where it is accepted,
+// else the refusal's; then nothing is written, and the channel is the one handed in.
 #[repr(C)]
 pub struct ChannelAnswered {
     pub number: u32,
@@ -174,8 +183,8 @@ fn made_of(answer: FrontAnswer) -> FrontMade
     }
 }
 
-// The front of an idle server at frame 0, of this identity, priority and period in frames. Refused with 2 (identity 0, or a period that is
-// not 2 to 250).
+// The front of an idle server at frame 0, of this identity, priority and period in frames. Refused
+// with 2 (identity 0, or a period that is not 2 to 250).
 #[no_mangle]
 pub extern "C" fn playout_front_new(identity: u16, priority: u8, period: u32) -> FrontMade
     ensures { λ r. ⌜ r ≡ frontMade identity priority period ⌝ }
@@ -339,10 +348,11 @@ fn acted(front: PlainFront, verb: u32, to: u16) -> AfterVerb
     }
 }
 
-// ---- the steps of a front, in place. A frame is `begin`, a `hear` for each heartbeat heard in it, `tick`, and then verbs.
+// ---- the steps of a front, in place. A frame is `begin`, a `hear` for each heartbeat heard in it,
+// `tick`, and then verbs.
 
-// The next frame begins, with nothing sent yet. Gives 0, or the number that it is refused with: 2 (the front does not decode), 16 (the
-// front is at the day's last frame, or beyond it).
+// The next frame begins, with nothing sent yet. Gives 0, or the number that it is refused with: 2
+// (the front does not decode), 16 (the front is at the day's last frame, or beyond it).
 #[no_mangle]
 pub extern "C" fn playout_front_begin(front: &mut PlainFront) -> u32
     ensures { λ r. ⌜ Begins (now (front .entry)) r (now (front .exit)) ⌝ }
@@ -352,8 +362,8 @@ pub extern "C" fn playout_front_begin(front: &mut PlainFront) -> u32
     next.answer
 }
 
-// One heartbeat is heard in the present frame. Gives the event and the role afterwards. Refused with 2 (the front does not decode, or the
-// heartbeat's tiebreaker is 0).
+// One heartbeat is heard in the present frame. Gives the event and the role afterwards. Refused
+// with 2 (the front does not decode, or the heartbeat's tiebreaker is 0).
 #[no_mangle]
 pub extern "C" fn playout_front_hear(
     front: &mut PlainFront,
@@ -366,8 +376,8 @@ pub extern "C" fn playout_front_hear(
     next.answer
 }
 
-// The timers of the present frame, after all hearing in it. Gives their events and the role afterwards. Refused with 2 (the front does not
-// decode).
+// The timers of the present frame, after all hearing in it. Gives their events and the role
+// afterwards. Refused with 2 (the front does not decode).
 #[no_mangle]
 pub extern "C" fn playout_front_tick(front: &mut PlainFront) -> FrontTimed
     ensures { λ r. ⌜ Ticks (now (front .entry)) r (now (front .exit)) ⌝ }
@@ -377,10 +387,11 @@ pub extern "C" fn playout_front_tick(front: &mut PlainFront) -> FrontTimed
     next.answer
 }
 
-// A verb in the present frame: 0 start, 1 ready, 2 unready, 3 pass, 4 crash, 5 restart, 6 cut, 7 mend. `to` is the second identity, for
-// pass, cut and mend; a front has no links, so cut and mend do nothing. Gives the event and the role afterwards. Refused with 2 (no such
-// verb, an identity 0, or the front does not decode), 8 (`to` is the front's own identity), 12 (the server is down), 13 (restart of a
-// server that is up), 14 (the role does not allow the verb).
+// A verb in the present frame: 0 start, 1 ready, 2 unready, 3 pass, 4 crash, 5 restart, 6 cut, 7
+// mend. `to` is the second identity, for pass, cut and mend; a front has no links, so cut and mend
+// do nothing. Gives the event and the role afterwards. Refused with 2 (no such verb, an identity 0,
+// or the front does not decode), 8 (`to` is the front's own identity), 12 (the server is down), 13
+// (restart of a server that is up), 14 (the role does not allow the verb).
 #[no_mangle]
 pub extern "C" fn playout_front_act(front: &mut PlainFront, verb: u32, to: u16) -> FrontActed
     ensures { λ r. ⌜ Acts (now (front .entry)) verb to r (now (front .exit)) ⌝ }
@@ -448,8 +459,8 @@ fn is_sent(event: u32, to: u16) -> bool
     plain::is_event(event) & !((event == passed) & (to == 0))
 }
 
-// The heartbeat that an event of this front sends, if any. `to` is the identity passed to, for event 10. Refused with 2 (no such event, event 10
-// with `to` 0, or the front does not decode).
+// The heartbeat that an event of this front sends, if any. `to` is the identity passed to, for
+// event 10. Refused with 2 (no such event, event 10 with `to` 0, or the front does not decode).
 #[no_mangle]
 pub extern "C" fn playout_front_sends(front: PlainFront, event: u32, to: u16) -> Sending
     ensures { λ r. ⌜ r ≡ frontSends front event to ⌝ }
@@ -508,8 +519,9 @@ fn write_lines(front: PlainFront, event: u32, out: &mut [u8]) -> PlainWritten
     written_to(at, out.len())
 }
 
-// The sheet's lines of an event of this front, at its frame, into the slice. Gives how many bytes were written. Refused with 2 (no such
-// event, or the front does not decode), 9 (the slice is too short).
+// The sheet's lines of an event of this front, at its frame, into the slice. Gives how many bytes
+// were written. Refused with 2 (no such event, or the front does not decode), 9 (the slice is too
+// short).
 #[no_mangle]
 pub extern "C" fn playout_front_lines(front: PlainFront, event: u32, out: &mut [u8]) -> PlainWritten
     ensures { λ r. ⌜ PutsIf (isFront front && isEvent event) ill (now (out .entry)) (frontLines front event) r (now (out .exit)) ⌝ }
@@ -537,8 +549,9 @@ fn write_refused(frame: u32, identity: u16, number: u32, out: &mut [u8]) -> Plai
     }
 }
 
-// The sheet's line of a refused call of this front, at its frame, into the slice; `number` is the refusal's. In a sheet only 11 to 16 have
-// such a line. Gives how many bytes were written. Refused with 2 (no such refusal, or the front does not decode), 9 (the slice is too short).
+// The sheet's line of a refused call of this front, at its frame, into the slice; `number` is the
+// refusal's. In a sheet only 11 to 16 have such a line. Gives how many bytes were written. Refused
+// with 2 (no such refusal, or the front does not decode), 9 (the slice is too short).
 #[no_mangle]
 pub extern "C" fn playout_front_refused(
     front: PlainFront,
@@ -591,7 +604,8 @@ fn heartbeat_read_of(answer: HeartbeatAnswer) -> HeartbeatRead
     }
 }
 
-// The heartbeat of one line, its line feed included. Refused with 1 (the line's form, or bytes after the line feed), 2 (a number badly written or out of range).
+// The heartbeat of one line, its line feed included. Refused with 1 (the line's form, or bytes
+// after the line feed), 2 (a number badly written or out of range).
 #[no_mangle]
 pub extern "C" fn playout_heartbeat_read(line: &[u8]) -> HeartbeatRead
     ensures { λ r. ⌜ r ≡ heartbeatRead (readHeartbeat (now (line .entry))) ⌝ }
@@ -599,8 +613,8 @@ pub extern "C" fn playout_heartbeat_read(line: &[u8]) -> HeartbeatRead
     heartbeat_read_of(Heartbeat::read(line))
 }
 
-// The line of a heartbeat, its line feed included, into the slice. Gives how many bytes were written. Refused with 2 (the tiebreaker is
-// 0), 9 (the slice is too short).
+// The line of a heartbeat, its line feed included, into the slice. Gives how many bytes were
+// written. Refused with 2 (the tiebreaker is 0), 9 (the slice is too short).
 #[no_mangle]
 pub extern "C" fn playout_heartbeat_write(heartbeat: PlainHeartbeat, out: &mut [u8]) -> PlainWritten
     ensures { λ r. ⌜ PutsIf (isHeartbeat heartbeat) ill (now (out .entry)) (heartbeatLine (heartbeatOf heartbeat)) r (now (out .exit)) ⌝ }
@@ -623,7 +637,8 @@ fn timecode_read_of(answer: TimecodeAnswer) -> TimecodeRead
     }
 }
 
-// The frame that a label HH:MM:SS:FF names, 25 frames to a second. Refused with 3 (badly written, or outside the day).
+// The frame that a label HH:MM:SS:FF names, 25 frames to a second. Refused with 3 (badly written,
+// or outside the day).
 #[no_mangle]
 pub extern "C" fn playout_timecode_read(time: &[u8]) -> TimecodeRead
     ensures { λ r. ⌜ r ≡ timecodeRead (readTimecode (now (time .entry))) ⌝ }
@@ -631,8 +646,8 @@ pub extern "C" fn playout_timecode_read(time: &[u8]) -> TimecodeRead
     timecode_read_of(Timecode::read(time))
 }
 
-// The label of a frame, 11 bytes, into the slice. Gives how many bytes were written. Refused with 3 (outside the day), 9 (the slice is too
-// short).
+// The label of a frame, 11 bytes, into the slice. Gives how many bytes were written. Refused with 3
+// (outside the day), 9 (the slice is too short).
 #[no_mangle]
 pub extern "C" fn playout_timecode_write(frame: u32, out: &mut [u8]) -> PlainWritten
     ensures { λ r. ⌜ PutsIf (inDay frame) 3 (now (out .entry)) (label frame) r (now (out .exit)) ⌝ }
@@ -665,8 +680,9 @@ fn adds(table: PlainTable, identity: u16, priority: u8) -> TableAdded
     }
 }
 
-// The table with a server more, of this identity and priority. Refused with 2 (identity 0, or no table that `playout_table_empty` and this call
-// made), 5 (the identity is in the table already), 6 (a seventeenth server).
+// The table with a server more, of this identity and priority. Refused with 2 (identity 0, or no
+// table that `playout_table_empty` and this call made), 5 (the identity is in the table already), 6
+// (a seventeenth server).
 #[no_mangle]
 pub extern "C" fn playout_table_add(table: PlainTable, identity: u16, priority: u8) -> TableAdded
     ensures { λ r. ⌜ Adds table identity priority r ⌝ }
@@ -708,8 +724,9 @@ fn opens(table: PlainTable, period: u32) -> ChannelOpened
     opened_as(plain::verdict_number(verdict), state)
 }
 
-// A channel of the table's servers at frame 0, all idle, with a period in frames. Refused with 2 (a period that is not 2 to 250, or no table that
-// `playout_table_empty` and `playout_table_add` made), 6 (no server), 7 (a period below the number of servers).
+// A channel of the table's servers at frame 0, all idle, with a period in frames. Refused with 2 (a
+// period that is not 2 to 250, or no table that `playout_table_empty` and `playout_table_add`
+// made), 6 (no server), 7 (a period below the number of servers).
 #[no_mangle]
 pub extern "C" fn playout_channel_fresh(table: PlainTable, period: u32) -> ChannelOpened
     ensures { λ r. ⌜ Opens table period r ⌝ }
@@ -750,8 +767,9 @@ fn unanswered(channel: PlainChannel) -> ChannelAnswered
     }
 }
 
-// The channel one frame on, and the frame's lines into the slice. Gives the channel and how many bytes were written. Refused with 2 (the
-// channel does not decode), 16 (it is at the day's last frame, or beyond it), 9 (the slice is too short).
+// The channel one frame on, and the frame's lines into the slice. Gives the channel and how many
+// bytes were written. Refused with 2 (the channel does not decode), 16 (it is at the day's last
+// frame, or beyond it), 9 (the slice is too short).
 #[no_mangle]
 pub extern "C" fn playout_channel_advance(channel: PlainChannel, out: &mut [u8]) -> ChannelAnswered
     ensures { λ r. ⌜ Answers (isChannel channel) channel (stepOutcome (channelOf channel)) (now (out .entry)) r (now (out .exit)) ⌝ }
@@ -763,8 +781,9 @@ pub extern "C" fn playout_channel_advance(channel: PlainChannel, out: &mut [u8])
     }
 }
 
-// The channel at a time, given as a frame, and the lines of all frames on the way into the slice. Gives the channel and how many bytes were
-// written. Refused with 2 (the channel does not decode), 3 (outside the day), 11 (before the present frame), 9 (the slice is too short).
+// The channel at a time, given as a frame, and the lines of all frames on the way into the slice.
+// Gives the channel and how many bytes were written. Refused with 2 (the channel does not decode),
+// 3 (outside the day), 11 (before the present frame), 9 (the slice is too short).
 #[no_mangle]
 pub extern "C" fn playout_channel_advance_to(
     channel: PlainChannel,
@@ -780,11 +799,13 @@ pub extern "C" fn playout_channel_advance_to(
     }
 }
 
-// The channel after a verb of the server with identity `a`, and the verb's lines into the slice. Verbs: 0 start, 1 ready, 2 unready, 3 pass,
-// 4 crash, 5 restart, 6 cut, 7 mend. `b` is the second identity, for pass, cut and mend. Gives the channel and how many bytes were written.
-// Refused with 2 (no such verb, an identity 0, or the channel does not decode), 8 (an identity that is not in the table, or twice the
-// same), 12 (the server is down), 13 (restart of a server that is up), 14 (the role does not allow the verb), 15 (cut of a cut link, mend
-// of a whole one), 9 (the slice is too short).
+// The channel after a verb of the server with identity `a`, and the verb's lines into the slice.
+// Verbs: 0 start, 1 ready, 2 unready, 3 pass, 4 crash, 5 restart, 6 cut, 7 mend. `b` is the second
+// identity, for pass, cut and mend. Gives the channel and how many bytes were written. Refused with
+// 2 (no such verb, an identity 0, or the channel does not decode), 8 (an identity that is not in
+// the table, or twice the same), 12 (the server is down), 13 (restart of a server that is up), 14
+// (the role does not allow the verb), 15 (cut of a cut link, mend of a whole one), 9 (the slice is
+// too short).
 #[no_mangle]
 pub extern "C" fn playout_channel_verb(
     channel: PlainChannel,
@@ -802,9 +823,10 @@ pub extern "C" fn playout_channel_verb(
     }
 }
 
-// The sheet's line of a refused call on this channel, at its frame, into the slice: the call's first identity (0 for an end) and the
-// refusal's number. In a sheet only 11 to 16 have such a line. Gives how many bytes were written. Refused with 2 (no such refusal, or the channel does not decode), 9 (the slice is
-// too short).
+// The sheet's line of a refused call on this channel, at its frame, into the slice: the call's
+// first identity (0 for an end) and the refusal's number. In a sheet only 11 to 16 have such a
+// line. Gives how many bytes were written. Refused with 2 (no such refusal, or the channel does not
+// decode), 9 (the slice is too short).
 #[no_mangle]
 pub extern "C" fn playout_channel_refused(
     channel: PlainChannel,
@@ -826,8 +848,8 @@ pub extern "C" fn playout_channel_refused(
 
 // ---- a day
 
-// The sheet of a whole day, given as its lines, into the slice. Gives how many bytes were written; a refused line of the day is told in the
-// sheet. Refused with 9 (the slice is too short).
+// The sheet of a whole day, given as its lines, into the slice. Gives how many bytes were written;
+// a refused line of the day is told in the sheet. Refused with 9 (the slice is too short).
 #[no_mangle]
 pub extern "C" fn playout_sheet(day: &[u8], out: &mut [u8]) -> PlainWritten
     ensures { λ r. ⌜ Puts (now (out .entry)) (sheet (now (day .entry))) r (now (out .exit)) ⌝ }

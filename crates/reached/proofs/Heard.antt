@@ -1,4 +1,5 @@
--- The closed form of hearing, where BS is nobody's: what a server is after all that it hears. Assumes nothing.
+-- The closed form of hearing, where BS is nobody's: what a server is after all that it hears.
+-- Assumes nothing.
 use mathlib.Core.Bool.{Bool, true, false, not, _&&_}
 use mathlib.Core.Path.{_≡_, refl, ap, _∙_}
 use mathlib.Core.Logic.{_⊎_, inl, inr}

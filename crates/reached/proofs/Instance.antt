@@ -1,4 +1,5 @@
--- The facts of the trace of a sound channel whose links are whole, and so: it settles. Assumes nothing.
+-- The facts of the trace of a sound channel whose links are whole, and so: it settles. Assumes
+-- nothing.
 use mathlib.Core.Bool.{true, not}
 use mathlib.Core.Path.{_≡_, refl, sym, ap, subst, _∙_}
 use Prim.Native.Nat.{ℕ, zero, suc, _-_, _<_, _≤_}

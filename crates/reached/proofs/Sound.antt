@@ -1,4 +1,5 @@
--- Sound channels: what holds of every channel that calls reach, and what a frame keeps of it. Assumes nothing.
+-- Sound channels: what holds of every channel that calls reach, and what a frame keeps of it.
+-- Assumes nothing.
 use mathlib.Core.Bool.{Bool, true, false, not}
 use mathlib.Core.Path.{_≡_, refl, sym, ap, subst, _∙_}
 use Prim.Native.Nat.{ℕ, _+_, _<_, _≤_}

@@ -26,8 +26,9 @@ use Rattle.group.specs.Calls.{advanceTo, callNumber, callChannel, channelAfter}
 use Rattle.group.specs.Links.{cutByCall, cutAfter}
 use Rattle.reached.specs.Worked.{threeHighest, twoHighest, rolesOf, lent, lateReady, lowerBeats, slowest, passing, twoPrimaries, opened}
 
--- what is said of the channel that a list ends with, as a test: the list ends in frame 12, and these are the roles then, in the next frame and in frame 26.
--- The channel is an argument, so that it is computed once
+-- what is said of the channel that a list ends with, as a test: the list ends in frame 12, and
+-- these are the roles then, in the next frame and in frame 26. The channel is an argument, so that
+-- it is computed once
 unfoldable pub says : State → List ℕ → List ℕ → List ℕ → Bool
 says c ended next settled =
     eqb (c .frame) 12

@@ -1,4 +1,5 @@
--- Timers are younger than their limits: in every frame, whatever is heard and entered. Assumes nothing.
+-- Timers are younger than their limits: in every frame, whatever is heard and entered. Assumes
+-- nothing.
 use mathlib.Core.Bool.{true, false, _&&_}
 use mathlib.Core.Path.{_≡_, refl, sym, ap}
 use mathlib.Core.List.{List, [], _∷_}
@@ -19,7 +20,8 @@ use Rattle.server.specs.Hearing.{fromHigher, fromLower, forThis, backupHears, p
 use Rattle.roles.specs.Roles.{isActive, isBeating}
 use Rattle.traces.proofs.Ways as ways
 
--- the timers of a server in the role r in frame t are not set later, and have not passed their limits
+-- the timers of a server in the role r in frame t are not set later, and have not passed their
+-- limits
 pub record DueIn (p : Period) (t : ℕ) (r : Role) (silence beat prospect : ℕ) : Type 0 where
   pub silence-past : silence ≤ t
   pub beat-past : beat ≤ t

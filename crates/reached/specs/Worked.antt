@@ -34,7 +34,8 @@ rolesOf c = roleNumber (place c 0 .role) ∷ roleNumber (place c 1 .role) ∷ ro
 abbrev pub lent : List ℕ
 lent = replicate 2000 0
 
--- all three get ready at once; if that is in frame 0 and only advances follow, the highest is primary from frame 12 on
+-- all three get ready at once; if that is in frame 0 and only advances follow, the highest is
+-- primary from frame 12 on
 abbrev pub allReady : List Call → List Call
 allReady ks =
     verb Start 1 0 lent
@@ -61,8 +62,8 @@ lowerBeats =
     ∷ verb Ready 3 0 lent
     ∷ []
 
--- the group that needs all of 4 periods and 2 frames: with 3 unheard by 2, both are primary in frame 12, where 3 passes to 1 and the
--- link is mended
+-- the group that needs all of 4 periods and 2 frames: with 3 unheard by 2, both are primary in
+-- frame 12, where 3 passes to 1 and the link is mended
 abbrev pub slowest : List Call
 slowest = allReady (advanceTo 6 lent ∷ verb Cut 3 2 lent ∷ advanceTo 12 lent ∷ verb Pass 3 1 lent ∷ verb Mend 3 2 lent ∷ [])
 

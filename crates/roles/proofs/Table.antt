@@ -1,4 +1,5 @@
--- The table's rule: one test that is computed over the whole table, and the rule of each cell from it. Assumes nothing.
+-- The table's rule: one test that is computed over the whole table, and the rule of each cell from
+-- it. Assumes nothing.
 use mathlib.Core.Bool.{Bool, true, _&&_}
 use mathlib.Core.Path.{_≡_, refl, ap₂}
 use mathlib.Core.List.{List, [], _∷_}

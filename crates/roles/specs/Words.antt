@@ -9,7 +9,8 @@ use Rattle.roles.specs.declared.Event.the-variants.{Nothing, ToBackup, T
 use Rattle.roles.specs.declared.Said.{Said}
 use Rattle.roles.specs.declared.Said.the-variants as says
 
--- "a role entered (`sync`, `backup`, `prospect`, `primary`, `idle`, `down`), a heartbeat sent (`beat`, `reveal`, `pass`), `lower`, `cut`, `mended`"
+-- "a role entered (`sync`, `backup`, `prospect`, `primary`, `idle`, `down`), a heartbeat sent
+-- (`beat`, `reveal`, `pass`), `lower`, `cut`, `mended`"
 abbrev pub wordBytes : Word → List ℕ
 wordBytes word.Sync = bytes "sync"
 wordBytes word.Backup = bytes "backup"
@@ -24,7 +25,8 @@ wordBytes word.Lower = bytes "lower"
 wordBytes word.Cut = bytes "cut"
 wordBytes word.Mended = bytes "mended"
 
--- what an event prints: "Entering prospect prints the role, then the heartbeat; `pass` prints before `backup`."
+-- what an event prints: "Entering prospect prints the role, then the heartbeat; `pass` prints
+-- before `backup`."
 abbrev pub said : Event → Said
 said Nothing = says.Nothing
 said ToBackup = says.One word.Backup

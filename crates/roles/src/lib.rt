@@ -76,9 +76,9 @@ pub enum Allowed {
 
 // ---- verbs
 
-// The table of roles against verbs: for each role, in the order of Role, and each verb, in the order
-// of Verb, the number of the role that is entered, or kept by `cut` and `mend` (0 to 5), or of the
-// refusal (12 to 14).
+// The table of roles against verbs: for each role, in the order of Role, and each verb, in the
+// order of Verb, the number of the role that is entered, or kept by `cut` and `mend` (0 to 5), or
+// of the refusal (12 to 14).
 const TABLE: [[u8; 8]; 6] = [
     [12, 12, 12, 12, 12, 1, 0, 0],
     [2, 14, 14, 14, 0, 13, 1, 1],

@@ -27,12 +27,13 @@ fromLower s h = lower (sender h) (rankOf s)
 unfoldable pub forThis : Server → Heartbeat → Bool
 forThis s h = not (eqb (h .bs) 0) && eqb (h .bs) (s .identity)
 
--- "Then, if BS .. is this identity: to prospect, sending a plain beat. Else, if Reveal is set and the sender is lower: to prospect,
--- sending a reveal."
+-- "Then, if BS .. is this identity: to prospect, sending a plain beat. Else, if Reveal is set and
+-- the sender is lower: to prospect, sending a reveal."
 unfoldable pub backupHears : Server → Heartbeat → Event
 backupHears s h = choose (forThis s h) ToProspectBeat (choose (isSet (h .reveal) && fromLower s h) ToProspectReveal Nothing)
 
--- "prospect or primary, higher sender: to backup, silence age 0. BS is not looked at." "Prospect, lower sender: nothing."
+-- "prospect or primary, higher sender: to backup, silence age 0. BS is not looked at." "Prospect,
+-- lower sender: nothing."
 unfoldable pub prospectHears : Server → Heartbeat → Event
 prospectHears s h = choose (fromHigher s h) ToBackup Nothing
 
@@ -52,7 +53,8 @@ hearsIn Primary s h = primaryHears s h
 abbrev pub hears : Server → Heartbeat → Event
 hears s h = hearsIn (s .role) s h
 
--- "backup: silence age to 0. Then ..": a backup that hears sets its silence timer, whatever comes of it
+-- "backup: silence age to 0. Then ..": a backup that hears sets its silence timer, whatever comes
+-- of it
 abbrev pub attending : ℕ → Role → Server → Server
 attending t Down s = s
 attending t Idle s = s

@@ -38,8 +38,9 @@ abbrev pub inRole : Role → Server → Server
 inRole r s =
     record { identity = s .identity; priority = s .priority; role = r; silence = s .silence; beat = s .beat; prospect = s .prospect; beats = s .beats; reveal = s .reveal; pass = s .pass }
 
--- "A timer set in frame s has age t − s in frame t": each timer is kept as the frame that it was set
--- in. A timer that the role does not have keeps the frame it was last set in, and is not looked at
+-- "A timer set in frame s has age t − s in frame t": each timer is kept as the frame that it was
+-- set in. A timer that the role does not have keeps the frame it was last set in, and is not looked
+-- at
 abbrev pub setSilence : ℕ → Server → Server
 setSilence t s =
     record { identity = s .identity; priority = s .priority; role = s .role; silence = t; beat = s .beat; prospect = s .prospect; beats = s .beats; reveal = s .reveal; pass = s .pass }
@@ -53,13 +54,14 @@ abbrev pub toProspect : ℕ → Server → Server
 toProspect t s =
     record { identity = s .identity; priority = s .priority; role = Prospect; silence = s .silence; beat = t; prospect = t; beats = s .beats; reveal = s .reveal; pass = s .pass }
 
--- what was sent in this frame: so many plain beats, whether a reveal, and to whom it passed (0: to nobody)
+-- what was sent in this frame: so many plain beats, whether a reveal, and to whom it passed (0: to
+-- nobody)
 abbrev pub setSent : ℕ → Bool → ℕ → Server → Server
 setSent n r b s =
     record { identity = s .identity; priority = s .priority; role = s .role; silence = s .silence; beat = s .beat; prospect = s .prospect; beats = n; reveal = r; pass = b }
 
--- the most plain beats that are counted in a frame: each of 15 other servers passes at most once, and who becomes prospect in a frame has beat age 0, so that its
--- timer adds none
+-- the most plain beats that are counted in a frame: each of 15 other servers passes at most once,
+-- and who becomes prospect in a frame has beat age 0, so that its timer adds none
 abbrev pub mostBeats : ℕ
 mostBeats = 15
 
@@ -91,8 +93,10 @@ revealOf s = record { bs = 0; priority = s .priority; tiebreaker = s .identity; 
 abbrev pub passOf : Server → Heartbeat
 passOf s = record { bs = s .pass; priority = s .priority; tiebreaker = s .identity; reveal = 0 }
 
--- "One server may send several in a frame"; "one sender's heartbeats in the order sent": its plain beats, its reveal, its pass. A server of a channel that calls reach sends in no other
--- order and no more (`SentInOrder` of the crate settling). On one that hears heartbeats in an order that no channel gives them, document 01 is silent
+-- "One server may send several in a frame"; "one sender's heartbeats in the order sent": its plain
+-- beats, its reveal, its pass. A server of a channel that calls reach sends in no other order and
+-- no more (`SentInOrder` of the crate settling). On one that hears heartbeats in an order that no
+-- channel gives them, document 01 is silent
 unfoldable pub sentBy : Server → List Heartbeat
 sentBy s = replicate (s .beats) (plainOf s) ++ (choose (s .reveal) (revealOf s ∷ []) [] ++ choose (eqb (s .pass) 0) [] (passOf s ∷ []))
 

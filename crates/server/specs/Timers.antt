@@ -63,8 +63,9 @@ afterBeating t p s = after t s (beating t p s)
 unfoldable pub afterRising : ℕ → Period → Server → Server
 afterRising t p s = after t s (rising t p s)
 
--- the three in their order, each on the server that the one before left: the server after the timers of frame t, and what each of them did.
--- Any frame and any `Period` have an answer; on those that no call reaches document 01 is silent
+-- the three in their order, each on the server that the one before left: the server after the
+-- timers of frame t, and what each of them did. Any frame and any `Period` have an answer; on those
+-- that no call reaches document 01 is silent
 abbrev pub timed : ℕ → Period → Server → Timed
 timed t p s =
     record {

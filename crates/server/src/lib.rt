@@ -16,8 +16,8 @@ ghost use Rattle.server.specs.Hearing.{fromHigher, fromLower, forThis, b
 ghost use Rattle.server.specs.Timers.{silent, beating, rising, timed};
 ghost use Rattle.server.specs.Verbs.{verbAnswer, refusing, Acts};
 
-// A timer is the frame it was set in. The last three fields are what was sent in this frame: plain beats, a reveal, a pass (0: none).
-// A place with no server has identity 0 and is down.
+// A timer is the frame it was set in. The last three fields are what was sent in this frame: plain
+// beats, a reveal, a pass (0: none). A place with no server has identity 0 and is down.
 pub struct Server {
     pub identity: u16,
     pub priority: u8,

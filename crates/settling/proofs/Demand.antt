@@ -1,5 +1,5 @@
--- Demand 3: the channel after any list of calls is sound, its links are whole where none is cut, and the calls that follow only
--- count frames. Assumes nothing.
+-- Demand 3: the channel after any list of calls is sound, its links are whole where none is cut,
+-- and the calls that follow only count frames. Assumes nothing.
 use mathlib.Core.Bool.{true, false, not}
 use mathlib.Core.Path.{_≡_, refl, sym, ap, subst, _∙_}
 use mathlib.Core.List.{List, [], _∷_}

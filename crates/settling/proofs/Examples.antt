@@ -1,4 +1,5 @@
--- The examples of specs/Examples.antt: what the crate reached computed of their lists, and no link is cut. Assumes nothing.
+-- The examples of specs/Examples.antt: what the crate reached computed of their lists, and no link
+-- is cut. Assumes nothing.
 use mathlib.Core.Bool.{Bool, true, false, not, _&&_}
 use mathlib.Core.Path.{_≡_, refl, sym, ap, _∙_}
 use mathlib.Core.List.{List, [], _∷_}

@@ -1,4 +1,5 @@
--- After any list of calls, every event of the next frame and every verb appends what it sends. Assumes nothing.
+-- After any list of calls, every event of the next frame and every verb appends what it sends.
+-- Assumes nothing.
 use mathlib.Core.Bool.{true, false, _&&_, _||_}
 use mathlib.Core.Path.{_≡_, refl, sym, ap, subst, _∙_}
 use mathlib.Core.Logic.{_⊎_, inl, inr}

@@ -17,8 +17,8 @@ use Rattle.settling.specs.Demand.{isVerb, InThoseRoles, NoneProspectOrPr
 -- `stateOf` is what a channel stands for, and `callOf` which call of document 01 a call is
 module _ {X K : Type 0} (Called : X → K → ℕ → X → Type 0) (stateOf : X → State) (callOf : K → Call) where
   -- "Each later call gets the channel that the call before it handed back, after a refusal too, and
-  -- nothing else changes the channel in between": from x on, the calls ks get the numbers ns and the
-  -- last hands back y
+  -- nothing else changes the channel in between": from x on, the calls ks get the numbers ns and
+  -- the last hands back y
   pub data Chain : X → List K → List ℕ → X → Type 0 where
     none : {x : X} → Chain x [] [] x
     next : {x y z : X} {k : K} {n : ℕ} {ks : List K} {ns : List ℕ} → Called x k n y → Chain y ks ns z → Chain x (k ∷ ks) (n ∷ ns) z

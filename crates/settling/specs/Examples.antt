@@ -1,4 +1,5 @@
--- Lists of calls that the theorem is about, worked out. The lists stand in specs/Worked.antt of the crate reached.
+-- Lists of calls that the theorem is about, worked out. The lists stand in specs/Worked.antt of the
+-- crate reached.
 use mathlib.Core.Path.{_≡_}
 use mathlib.Core.List.{List, [], _∷_}
 use Prim.Native.Nat.{ℕ}
@@ -9,8 +10,8 @@ use Rattle.group.specs.Calls.{Call, advanceTo, channelAfter}
 pub use Rattle.reached.specs.Worked.{ranked, threeHighest, twoHighest, rolesOf, lent, allReady, lateReady, lowerBeats, slowest, passing, twoPrimaries, opened}
 use Rattle.group.specs.Links.{NoLinkCut}
 
--- what holds of the servers rs and the list ks, which ends in frame 12: the table is taken, no link is cut, and the roles when the list
--- ends, in frame t + 1, and in frame t + 4 × P + 2 = 26
+-- what holds of the servers rs and the list ks, which ends in frame 12: the table is taken, no link
+-- is cut, and the roles when the list ends, in frame t + 1, and in frame t + 4 × P + 2 = 26
 pub record Example (rs : List Rank) (ks : List Call) (ended next settled : List ℕ) : Type 0 where
   pub table : freshRefusal (tableOf rs) 3 ≡ 0
   pub uncut : NoLinkCut (opened rs) ks

@@ -10,7 +10,8 @@ use Rattle.settling.specs.Whole.{LinksAreAsCut}
 pub record SettlingFrames (n w : ℕ) : Type 0 where
   pub figure : w ≡ settlingTime n
   pub settles : SettlesIn n w
-  -- whatever the period: lists of calls worked out, in which order servers send, that senders have different ranks, and which links are whole
+  -- whatever the period: lists of calls worked out, in which order servers send, that senders have
+  -- different ranks, and which links are whole
   pub examples : Examples
   pub ordered : SentInOrder
   pub differ : SendersAlwaysDiffer

@@ -1,4 +1,5 @@
--- "one sender's heartbeats in the order sent": what a server keeps of its sendings, a count, a flag and an identity, is the list of them.
+-- "one sender's heartbeats in the order sent": what a server keeps of its sendings, a count, a flag
+-- and an identity, is the list of them.
 use mathlib.Core.Path.{_≡_}
 use mathlib.Core.List.{List, [], _∷_, _++_}
 use Prim.Native.Nat.{ℕ, _+_, _<_}
@@ -62,6 +63,7 @@ pub record AppendsAll (c : State) : Type 0 where
 abbrev pub SentInOrder : Type 0
 SentInOrder = (t : Table) (n : ℕ) (ks : List Call) → freshRefusal t n ≡ 0 → AppendsAll (channelAfter (fresh t n) ks)
 
--- and then the servers that sent have different ranks, so that each of them is heard (`AllHearInOrder` of the crate group)
+-- and then the servers that sent have different ranks, so that each of them is heard
+-- (`AllHearInOrder` of the crate group)
 abbrev pub SendersAlwaysDiffer : Type 0
 SendersAlwaysDiffer = (t : Table) (n : ℕ) (ks : List Call) → freshRefusal t n ≡ 0 → SendersDiffer (channelAfter (fresh t n) ks)

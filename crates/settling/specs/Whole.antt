@@ -9,7 +9,8 @@ use Rattle.group.specs.Hearing.{place, whole}
 use Rattle.group.specs.Calls.{Call, channelAfter}
 use Rattle.group.specs.Links.{cutAfter}
 
--- after any list of calls on a fresh channel, the link from place i to place j is whole if and only if `cutAfter` does not say that it is cut
+-- after any list of calls on a fresh channel, the link from place i to place j is whole if and only
+-- if `cutAfter` does not say that it is cut
 abbrev pub LinksAreAsCut : Type 0
 LinksAreAsCut =
     (n : ℕ) (t : Table) (ks : List Call) → freshRefusal t n ≡ 0 → (i j : ℕ) → i < most → j < most →

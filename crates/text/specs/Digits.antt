@@ -1,4 +1,5 @@
--- "A number is written most significant digit first with no leading zero .. zero is the one digit 0."
+-- "A number is written most significant digit first with no leading zero .. zero is the one digit
+-- 0."
 use mathlib.Core.Bool.{true, false}
 use mathlib.Core.List.{List, [], _∷_, _++_}
 use Prim.Native.Nat.{ℕ, zero, suc, _+_, _/_, _%_}

@@ -19,8 +19,8 @@ ofLine (Refused r) = refused (numberOf r)
 abbrev pub lineLimit : ℕ
 lineLimit = 64
 
--- "each line ends in a line feed and has at most 64 bytes without it"; "1. Line form: .. too long, no line feed." The slice is exactly one
--- line: its first line feed is its last byte
+-- "each line ends in a line feed and has at most 64 bytes without it"; "1. Line form: .. too long,
+-- no line feed." The slice is exactly one line: its first line feed is its last byte
 unfoldable pub readLine : List ℕ → Answer
 readLine s = choose (leb (upTo 10 s) lineLimit && eqb (suc (upTo 10 s)) (length s)) (accepted (upTo 10 s ∷ [])) (refused 1)
 

@@ -32,6 +32,7 @@ wellWritten [] = false
 wellWritten (x ∷ []) = isDigit x
 wellWritten (x ∷ y ∷ s) = not (eqb x 48) && every isDigit (x ∷ y ∷ s)
 
--- "2. A number badly written or out of range.": the range is from lo to hi, and is empty where lo is greater
+-- "2. A number badly written or out of range.": the range is from lo to hi, and is empty where lo
+-- is greater
 unfoldable pub readNumber : ℕ → ℕ → List ℕ → Answer
 readNumber lo hi s = choose (wellWritten s && (leb lo (value s) && leb (value s) hi)) (accepted (value s ∷ [])) (refused 2)

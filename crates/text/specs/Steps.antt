@@ -31,8 +31,9 @@ readDigit hi n x = choose (isDigit x && leb (n * 10 + (x - 48)) hi) (accepted ((
 unfoldable pub atLeast : ℕ → ℕ → Answer
 atLeast lo n = choose (leb lo n) (accepted (n ∷ [])) (refused 2)
 
--- what a writer that writes w in pieces leaves: the answer of w, and where all of w fits, w at its place and nothing else
--- changed. Where it does not fit some pieces may stand there, so who calls it has seen before that it fits
+-- what a writer that writes w in pieces leaves: the answer of w, and where all of w fits, w at its
+-- place and nothing else changed. Where it does not fit some pieces may stand there, so who calls
+-- it has seen before that it fits
 pub record Pieces (d : List ℕ) (at : ℕ) (w : List ℕ) (r : Written) (d′ : List ℕ) : Type 0 where
   pub answer : ofWritten r ≡ writing d at w
   pub slice : at + length w ≤ length d → d′ ≡ splice d at w

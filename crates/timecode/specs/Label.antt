@@ -15,7 +15,8 @@ dayLength = 24 * 60 * 60 * rate
 abbrev pub two : ℕ → List ℕ
 two n = (48 + n / 10 % 10) ∷ (48 + n % 10) ∷ []
 
--- "Timecode is HH:MM:SS:FF, two digits each". A frame outside the day has the last two digits of its hours: document 01 names no label for it
+-- "Timecode is HH:MM:SS:FF, two digits each". A frame outside the day has the last two digits of
+-- its hours: document 01 names no label for it
 unfoldable pub label : ℕ → List ℕ
 label t =
     two (t / (60 * 60 * rate)) ++ (bytes ":" ++ (two (t / (60 * rate) % 60) ++ (bytes ":" ++ (two (t / rate % 60) ++ (bytes ":" ++ two (t % rate))))))

@@ -1,4 +1,5 @@
--- The order of the servers: the highest that passes a test, and a server's rank, the number of those lower than it.
+-- The order of the servers: the highest that passes a test, and a server's rank, the number of
+-- those lower than it.
 use mathlib.Core.Path.{_≡_, sym}
 use mathlib.Core.Logic.{_⊎_, inl, inr}
 use mathlib.Core.Bool.{Bool, true, false, _&&_}

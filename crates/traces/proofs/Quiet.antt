@@ -1,5 +1,5 @@
--- Traces in which nobody reveals for long: nobody beats at 2, and the top wakes (lemma C); or somebody does, and the
--- highest of them stays the only one (lemma D).
+-- Traces in which nobody reveals for long: nobody beats at 2, and the top wakes (lemma C); or
+-- somebody does, and the highest of them stays the only one (lemma D).
 use mathlib.Core.Path.{_∙_}
 use mathlib.Core.Logic.{_⊎_, inl, inr}
 use Prim.Native.Nat.{ℕ, suc, _+_, _<_, _≤_}
@@ -43,7 +43,8 @@ module _ {P S Q : ℕ} {t : Trace} (f : Facts P S Q t) where
       go (waited z y u) = inr u
 
   module _ (un : Unrevealed S t) where
-    -- lemma C: if nobody beats at 2 and nobody reveals up to S + 1, every active server reveals in S + 2
+    -- lemma C: if nobody beats at 2 and nobody reveals up to S + 1, every active server reveals in
+    -- S + 2
     pub all-wake : NoneBeats t 2 → (i : ℕ) → i < t .size → Active t 0 i → RevealingProspect t (suc (suc S)) i
     all-wake none i l a =
         let end = upto Silent 2 (suc S) (none, omega arith) next (suc S) (omega arith) (omega arith) in

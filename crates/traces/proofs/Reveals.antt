@@ -1,5 +1,6 @@
--- What a reveal brings. The top is the highest active server: from the next frame on it beats for ever (lemmas A, B),
--- reveals climb and end within P frames, and 2 * P frames later the top is the only beater (lemma E).
+-- What a reveal brings. The top is the highest active server: from the next frame on it beats for
+-- ever (lemmas A, B), reveals climb and end within P frames, and 2 * P frames later the top is the
+-- only beater (lemma E).
 use mathlib.Core.Path.{_≡_, sym, _∙_}
 use Prim.Native.Nat.{ℕ, suc, _+_, _*_, _<_, _≤_}
 use mathlib.Core.Bool.{true}

@@ -1,4 +1,5 @@
--- What the ways of a step say of senders: active stays active, who sends or reveals beats, a new beater reveals.
+-- What the ways of a step say of senders: active stays active, who sends or reveals beats, a new
+-- beater reveals.
 use mathlib.Core.Path.{_≡_, refl, sym, ap, _∙_}
 use mathlib.Core.Logic.{_⊎_, inl, inr}
 use mathlib.Core.Bool.{true, false}

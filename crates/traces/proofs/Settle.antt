@@ -1,5 +1,5 @@
--- The settling theorem. A reveal by S + 1, or the silence of all, makes the top primary; else the highest of those that
--- beat at 2 becomes it.
+-- The settling theorem. A reveal by S + 1, or the silence of all, makes the top primary; else the
+-- highest of those that beat at 2 becomes it.
 use mathlib.Core.Path.{_≡_}
 use mathlib.Core.Logic.{_⊎_, inl, inr}
 use mathlib.Core.Bool.{true}

@@ -1,4 +1,5 @@
--- Once h is the only beater, all is calm and nobody reveals, it stays so; and it is so once h has been heard by all.
+-- Once h is the only beater, all is calm and nobody reveals, it stays so; and it is so once h has
+-- been heard by all.
 use mathlib.Core.Path.{_≡_, sym, _∙_}
 use mathlib.Core.Logic.{inl, _≢_}
 use mathlib.Core.Bool.{true, false}

@@ -1,4 +1,5 @@
--- The ways of one server's step, and what follows at once: who is active stays so, who sends beats, who reveals beats.
+-- The ways of one server's step, and what follows at once: who is active stays so, who sends beats,
+-- who reveals beats.
 use mathlib.Core.Path.{_≡_, refl}
 use mathlib.Core.Logic.{_⊎_, inl, inr, _≢_}
 use mathlib.Core.Bool.{true, false}

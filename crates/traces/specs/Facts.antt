@@ -1,4 +1,5 @@
--- What is asked of a trace: the order, the limits, the ages, the first step, and every later step of one server.
+-- What is asked of a trace: the order, the limits, the ages, the first step, and every later step
+-- of one server.
 use mathlib.Core.Path.{_≡_}
 use mathlib.Core.Logic.{_⊎_, _≢_}
 use mathlib.Core.Bool.{Bool, true, false}

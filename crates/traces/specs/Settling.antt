@@ -1,4 +1,5 @@
--- What is proved of every trace of which the facts hold. The proof is `settles` of proofs/Settle.antt.
+-- What is proved of every trace of which the facts hold. The proof is `settles` of
+-- proofs/Settle.antt.
 use mathlib.Core.Path.{_≡_}
 use mathlib.Core.Logic.{_⊎_, _≢_}
 use mathlib.Core.Bool.{true, false}
@@ -8,7 +9,8 @@ use Rattle.roles.specs.Roles.{isBeating}
 use Rattle.traces.specs.Trace.{Trace, Active}
 use Rattle.traces.specs.Facts.{Facts}
 
--- in frame k, h is primary, all others that were active at 0 are backup, and no other server is primary
+-- in frame k, h is primary, all others that were active at 0 are backup, and no other server is
+-- primary
 pub record Led (t : Trace) (h k : ℕ) : Type 0 where
   pub leads : t .role k h ≡ Primary
   pub follow : (i : ℕ) → i < t .size → i ≢ h → Active t 0 i → t .role k i ≡ Backup

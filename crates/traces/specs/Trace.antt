@@ -1,4 +1,5 @@
--- A trace: what a group of servers does from frame to frame, as functions of a frame number and of a server's index.
+-- A trace: what a group of servers does from frame to frame, as functions of a frame number and of
+-- a server's index.
 use mathlib.Core.Path.{_≡_}
 use mathlib.Core.Logic.{_≢_}
 use mathlib.Core.Bool.{Bool, true}
@@ -6,8 +7,9 @@ use Prim.Native.Nat.{ℕ, _<_}
 use Rattle.roles.specs.declared.Role.{Role}
 use Rattle.roles.specs.Roles.{isActive, isBeating}
 
--- The servers are the indices below `size`; `higher i j` says that i is higher than j. `role k i` and the ages are
--- those at the end of frame k, `sends k i` says that i sent anything in it, and `reveals k i` that it sent a reveal.
+-- The servers are the indices below `size`; `higher i j` says that i is higher than j. `role k i`
+-- and the ages are those at the end of frame k, `sends k i` says that i sent anything in it, and
+-- `reveals k i` that it sent a reveal.
 pub record Trace : Type 0 where
   pub size : ℕ
   pub higher : ℕ → ℕ → Bool

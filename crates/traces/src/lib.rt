@@ -1,1 +1,2 @@
-// A group of servers that elects a primary, frame by frame, and settles: definitions and a theorem over traces. It has no code.
+// A group of servers that elects a primary, frame by frame, and settles: definitions and a theorem
+// over traces. It has no code.

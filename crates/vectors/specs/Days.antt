@@ -23,7 +23,8 @@ ofField p at a = record { n = getD (a .values) 0 0; at = at; good = eqb (a .numb
 abbrev pub withField : Number → List ℕ → ℕ → ℕ → Number
 withField p s at greatest = ofField p at (readNumber 0 greatest s)
 
--- the number after p, where `rest` is what follows it, up to the byte `stop`; a bad one where there is no such byte
+-- the number after p, where `rest` is what follows it, up to the byte `stop`; a bad one where there
+-- is no such byte
 unfoldable pub nextIn : Number → List ℕ → ℕ → ℕ → Number
 nextIn p rest stop greatest =
     choose (ltb (upTo stop rest) (length rest))

@@ -1,11 +1,13 @@
-// Sets the engine's sheets against those of the file `days`, which the model made. The file begins with a line of two numbers, parted by a
-// tab: how many days it has, and how many of these have a repeated part. Each day is a line of seven numbers,
-//   HEAD TIMES BODY TAIL SHEET SHOWN CHECK
-// parted by tabs, then HEAD, BODY and TAIL bytes, then SHOWN bytes. The day is the head, the body TIMES times over, and the tail; its sheet has SHEET
-// bytes, those shown unless SHOWN is 0, and CHECK is FNV-1a over it, 64 bits.
+// Sets the engine's sheets against those of the file `days`, which the model made. The file begins
+// with a line of two numbers, parted by a tab: how many days it has, and how many of these have a
+// repeated part. Each day is a line of seven numbers, HEAD TIMES BODY TAIL SHEET SHOWN CHECK parted
+// by tabs, then HEAD, BODY and TAIL bytes, then SHOWN bytes. The day is the head, the body TIMES
+// times over, and the tail; its sheet has SHEET bytes, those shown unless SHOWN is 0, and CHECK is
+// FNV-1a over it, 64 bits.
 //
-// A day that differs gets a line with its number and what differs first: the length, the bytes or the check, or that it is too long to build. So does the first day that is not well
-// written, and nothing after it is read. The last line says how many days agree.
+// A day that differs gets a line with its number and what differs first: the length, the bytes or
+// the check, or that it is too long to build. So does the first day that is not well written, and
+// nothing after it is read. The last line says how many days agree.
 use libc::STDOUT_FILENO;
 use text::NumberAnswer;
 use text::Written;
@@ -18,7 +20,8 @@ ghost use Rattle.vectors.specs.Days.{withField, nextNumber, lineAt, dayO
 
 // ---- numbers
 
-// A number of the file, the place after it and what ends it, and whether it and those before it are well written.
+// A number of the file, the place after it and what ends it, and whether it and those before it are
+// well written.
 struct Number {
     n: u64,
     at: usize,
@@ -67,7 +70,8 @@ impl Number {
     }
 }
 
-// The numbers of a day, the places after its line and after its bytes, and whether all the numbers are well written.
+// The numbers of a day, the places after its line and after its bytes, and whether all the numbers
+// are well written.
 struct Line {
     head: usize,
     times: u64,
@@ -188,7 +192,8 @@ fn compare(sheet: &[u8], long: usize, shown: &[u8], number: u64) -> Found
     }
 }
 
-// The engine's sheet of a day against what the file says. One for which there is no room counts as one of another length.
+// The engine's sheet of a day against what the file says. One for which there is no room counts as
+// one of another length.
 fn compare_sheet(day: &[u8], long: usize, shown: &[u8], number: u64, out: &mut [u8]) -> Found
     ensures { λ r. ⌜ r ≡ sheetCompared (now (out .entry)) (now (day .entry)) long (now (shown .entry)) number ⌝ }
 {
@@ -272,7 +277,8 @@ fn repeats(line: Line) -> u64
     if line.times == 0 { 0 } else { 1 }
 }
 
-// How far the file is read, how many of the days agree, how many have a repeated part, and whether all are well written.
+// How far the file is read, how many of the days agree, how many have a repeated part, and whether
+// all are well written.
 struct Tally {
     at: usize,
     agree: u64,

@@ -15,11 +15,13 @@ use Rattle.places.specs.Words.{serversOf, Becomes}
 use Rattle.frame.specs.Answers.{stateOf}
 use Rattle.verbs.specs.declared.Acted.{Acted}
 
--- whether the servers with the numbers w have the identities of the verb v, and these differ, whatever the frame, the period and the links
+-- whether the servers with the numbers w have the identities of the verb v, and these differ,
+-- whatever the frame, the period and the links
 abbrev pub Knows : List ℕ → Verb → ℕ → ℕ → Bool → Type 0
 Knows w v a b r = (t : ℕ) (p : Period) (l : List Bool) → r ≡ known (stateOf t p (serversOf w) l) v a b
 
--- the verb v in frame t with the lent slice d, whatever the period: w are the numbers of the servers and l the links before it, w′ and l′ those after it
+-- the verb v in frame t with the lent slice d, whatever the period: w are the numbers of the
+-- servers and l the links before it, w′ and l′ those after it
 pub record Acts (t : ℕ) (w : List ℕ) (l : List Bool) (v : Verb) (a b : ℕ) (d : List ℕ) (r : Acted) (w′ : List ℕ) (l′ : List Bool) (d′ : List ℕ) : Type 0 where
   pub gives : (p : Period) → Gives (stateOf t p (serversOf w) l) (verbOutcome (stateOf t p (serversOf w) l) v a b) d (r .verdict) (r .written) (stateOf t p (serversOf w′) l′) d′
   pub words : (p : Period) → Becomes w (channelIn (stateOf t p (serversOf w) l) (verbOutcome (stateOf t p (serversOf w) l) v a b) (length d) .servers) w′

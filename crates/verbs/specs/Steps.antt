@@ -57,7 +57,8 @@ pub record Does (t : ℕ) (v : Verb) (b : ℕ) (s : Server) (w : Bool) (r : Deed
   pub server : r .server ≡ after t s (verbHappens v b (verbAnswer v b s))
   pub link : r .link ≡ linkAfter v w
 
--- a verb with the number n and the lines w: its verdict, what it wrote, and the slice afterwards, whatever the channel is
+-- a verb with the number n and the lines w: its verdict, what it wrote, and the slice afterwards,
+-- whatever the channel is
 abbrev pub Tells : ℕ → List ℕ → List ℕ → Acted → List ℕ → Type 0
 Tells n w d r d′ =
     (c : State) (o : Outcome) → o .number ≡ n → (n ≡ 0 → o .lines ≡ w) → Gives c o d (r .verdict) (r .written) (channelIn c o (length d)) d′
@@ -66,7 +67,8 @@ Tells n w d r d′ =
 abbrev pub put : State → ℕ → ℕ → Server → Bool → State
 put c i j s w = record { frame = c .frame; period = c .period; servers = set (c .servers) i s; whole = set (c .whole) (linkOf i j) w }
 
--- of the verb v on the channel c, with its identities at the places x and y: what is handed back where it is allowed, and where it is not
+-- of the verb v on the channel c, with its identities at the places x and y: what is handed back
+-- where it is allowed, and where it is not
 pub record Decided (c : State) (v : Verb) (a b x y : ℕ) (d : List ℕ) (r : Made) (d′ : List ℕ) : Type 0 where
   pub allowed : r .verdict ≡ Accepted → Gives c (verbOutcome c v a b) d (r .verdict) (r .written) (put c (x % most) (y % most) (r .server) (r .link)) d′
   pub refused : (k : Refusal) → r .verdict ≡ Refused k → Gives c (verbOutcome c v a b) d (r .verdict) (r .written) c d′

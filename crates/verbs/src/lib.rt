@@ -1,4 +1,5 @@
-// The eight verbs: on a channel's state by value, and on the numbers of its servers and its links in place.
+// The eight verbs: on a channel's state by value, and on the numbers of its servers and its links
+// in place.
 use group::Links;
 use group::Servers;
 use group::State;
@@ -38,7 +39,8 @@ pub struct Answered {
     pub state: State,
 }
 
-// What a verb would make of its server and of its link, and what the sheet says of it. Where it is refused, only the verdict counts.
+// What a verb would make of its server and of its link, and what the sheet says of it. Where it is
+// refused, only the verdict counts.
 struct Deed {
     verdict: Verdict,
     said: Said,
@@ -164,7 +166,8 @@ fn tell(verdict: Verdict, said: Said, frame: u32, identity: u16, out: &mut [u8])
     }
 }
 
-// The verdict on a verb, how many bytes it wrote, and what it makes of its server and of its link. Where it is refused, these do not count.
+// The verdict on a verb, how many bytes it wrote, and what it makes of its server and of its link.
+// Where it is refused, these do not count.
 struct Made {
     verdict: Verdict,
     written: usize,
@@ -172,7 +175,8 @@ struct Made {
     link: bool,
 }
 
-// A verb whose identities stand at the places `first` and `second`, or at none (16 or more), with the server at the first and the link from there to the second; for these two, places beyond the
+// A verb whose identities stand at the places `first` and `second`, or at none (16 or more), with
+// the server at the first and the link from there to the second; for these two, places beyond the
 // last count from 0 again.
 fn decide(
     verb: Verb,
@@ -213,7 +217,8 @@ fn put(words: &mut Packed, whole: &mut Links, i: usize, j: usize, server: Server
     whole[Table::SERVERS * i + j] = link;
 }
 
-// Whether the table has a verb's identities, which differ; the second counts only where the verb has one. It has no 0.
+// Whether the table has a verb's identities, which differ; the second counts only where the verb
+// has one. It has no 0.
 pub fn knows(words: &Packed, verb: Verb, a: u16, b: u16) -> bool
     ensures { λ r. ⌜ Knows (now (words .entry)) verb a b r ⌝ }
 {
@@ -222,7 +227,8 @@ pub fn knows(words: &Packed, verb: Verb, a: u16, b: u16) -> bool
     known(verb, a, b, first, second)
 }
 
-// Any verb; the second identity is not looked at where the verb has one only. An identity that is not in the table stands for place 0, and gets 8, or 2 where it is 0.
+// Any verb; the second identity is not looked at where the verb has one only. An identity that is
+// not in the table stands for place 0, and gets 8, or 2 where it is 0.
 pub fn act(
     words: &mut Packed,
     whole: &mut Links,
