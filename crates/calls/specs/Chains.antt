@@ -1,4 +1,5 @@
--- Demand 3 of single calls of `Channel`, by their contracts alone.
+-- Demand 3 of single calls of `Channel`, by their contracts alone. (`advance_within` is none of
+-- document 01's calls; what it hands back, single advances could have: `WithinIsAdvances` of group.)
 use mathlib.Core.Path.{_≡_}
 use mathlib.Core.List.{List}
 use Prim.Native.Nat.{ℕ}
@@ -19,7 +20,7 @@ pub record Called (c : Channel) (k : Call) (n : ℕ) (e : Channel) : Type 0 wher
   pub number : n ≡ ofVerdict (answer .verdict)
   pub channel : e ≡ answer .channel
 
--- a call of this file is the call of document 01
+-- a call is that of document 01 as it stands
 abbrev pub itself : Call → Call
 itself k = k
 

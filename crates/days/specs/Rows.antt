@@ -26,9 +26,9 @@ heartbeatOf vs = record { bs = getD vs 0 0; priority = getD vs 1 0; tiebreaker =
 abbrev pub Says : Row → Type 0
 Says (day d s) = sheet d ≡ s
 Says (timecode l n vs) = (readTimecode l .number ≡ n) × (readTimecode l .values ≡ vs)
-Says (heartbeat l set w) =
+Says (heartbeat l revealed w) =
     (readHeartbeat l .number ≡ 0)
-    × (isSet (heartbeatOf (readHeartbeat l .values) .reveal) ≡ set)
+    × (isSet (heartbeatOf (readHeartbeat l .values) .reveal) ≡ revealed)
     × (heartbeatLine (heartbeatOf (readHeartbeat l .values)) ≡ w)
 
 abbrev pub rows : List Row

@@ -1,28 +1,29 @@
 -- How much a step prints at the most.
 use mathlib.Core.Path.{_≡_}
 use mathlib.Core.List.{List}
-use Prim.Native.Nat.{ℕ, suc, _+_, _*_, _≤_, _<_}
+use Prim.Native.Nat.{ℕ, suc, _≤_, _<_}
 use lib.ListN.{length}
 use Rattle.server.specs.declared.Server.{Server}
 use Rattle.server.specs.Server.{mostBeats}
-use Rattle.lines.specs.Lines.{longest}
+use Rattle.heartbeat.specs.Rank.{greatestIdentity}
 use Rattle.group.specs.Table.{most}
 use Rattle.group.specs.declared.State.{State}
 use Rattle.group.specs.Hearing.{place}
+use Rattle.frame.specs.Answers.{frameBytes}
 use Rattle.day.specs.Day.{lastLine}
 use Rattle.feeding.specs.Fed.{Fed, beginning, taken}
 use Rattle.feeding.specs.Moves.{stepMove, stepsMove, lastMove}
 
--- no frame of a small channel (below) prints more bytes: each of 16 servers hears each of the 16 at
--- most 17 times, and has three timers, each with two lines of 27 bytes at the most
+-- no frame of a small channel (below) prints more bytes
 abbrev pub stepBytes : ℕ
-stepBytes = most * (2 * longest * (most * (mostBeats + 2)) + 6 * longest)
+stepBytes = frameBytes mostBeats
 
--- identities are below 65,536, and no more beats were sent in a frame than are counted
+-- identities are no greater than they may be, and no more beats were sent in a frame than are
+-- counted
 pub record Small (s : Server) : Type 0 where
-  pub identity : s .identity < 65536
+  pub identity : s .identity < suc greatestIdentity
   pub beats : s .beats ≤ mostBeats
-  pub pass : s .pass < 65536
+  pub pass : s .pass < suc greatestIdentity
 
 pub record SmallChannel (c : State) : Type 0 where
   pub places : length (c .servers) ≡ most

@@ -1,8 +1,9 @@
 -- What proofs and private functions speak of. Nothing is promised here.
-use Prim.Native.Nat.{ℕ, _≤_, _<_}
+use Prim.Native.Nat.{ℕ, suc, _≤_, _<_}
 use lib.Dec.{eqb}
 use Rattle.lists.specs.Choice.{choose}
 use Rattle.timecode.specs.Label.{dayLength}
+use Rattle.heartbeat.specs.Rank.{greatestIdentity}
 use Rattle.periods.specs.Period.{leastPeriod, greatestPeriod}
 use Rattle.group.specs.declared.State.{State}
 use Rattle.day.specs.Read.{DayLine, wrong, period, server, entry, end}
@@ -20,6 +21,6 @@ onMove f room c l s =
 abbrev pub Sized : DayLine → Type 0
 Sized (wrong n) = n < 100
 Sized (period p) = (leastPeriod ≤ p) × (p ≤ greatestPeriod)
-Sized (server i p) = i < 65536
-Sized (entry t v a b) = (t < dayLength) × (a < 65536) × (b < 65536)
+Sized (server i p) = i < suc greatestIdentity
+Sized (entry t v a b) = (t < dayLength) × (a < suc greatestIdentity) × (b < suc greatestIdentity)
 Sized (end t) = t < dayLength

@@ -2,7 +2,7 @@
 use mathlib.Core.Bool.{Bool, true, false, not, _&&_, _||_}
 use mathlib.Core.Path.{_≡_}
 use mathlib.Core.List.{List}
-use Prim.Native.Nat.{ℕ, _+_}
+use Prim.Native.Nat.{ℕ, _+_, _*_}
 use lib.Dec.{ltb}
 use lib.ListN.{length}
 use Rattle.lists.specs.Choice.{choose}
@@ -13,7 +13,8 @@ use Rattle.periods.specs.declared.Period.{Period}
 use Rattle.server.specs.declared.Server.{Server}
 use Rattle.periods.specs.Period.{silenceLimit, prospectLimit, beatLimit}
 use Rattle.server.specs.Timers.{aged}
-use Rattle.lines.specs.Lines.{placeAfter}
+use Rattle.lines.specs.Lines.{longest, placeAfter}
+use Rattle.group.specs.Table.{most}
 use Rattle.group.specs.declared.State.{State}
 use Rattle.group.specs.Frame.{advanced, frameLines}
 use Rattle.places.specs.Words.{Becomes}
@@ -22,6 +23,12 @@ use Rattle.frame.specs.declared.Fared.{Fared}
 -- the channel in frame t with the period p, the servers l and the links w
 abbrev pub stateOf : ℕ → Period → List Server → List Bool → State
 stateOf t p l w = record { frame = t; period = p; servers = l; whole = w }
+
+-- no frame writes more bytes where no server sent more than n plain beats in the one before: each
+-- server hears each of them, a reveal and a pass of every server, and has three timers, each with
+-- two lines at the most
+abbrev pub frameBytes : ℕ → ℕ
+frameBytes n = most * (2 * longest * (most * (n + 2)) + 6 * longest)
 
 -- ---- one server
 

@@ -16,16 +16,17 @@ use Rattle.server.specs.declared.Server.{Server}
 use Rattle.server.specs.declared.Timed.{Timed}
 use Rattle.server.specs.Server.{absent, setSilence, cleared, sentBy, sentAny}
 use Rattle.server.specs.Timers.{aged, timed}
-use Rattle.lines.specs.Lines.{longest, placeAfter}
+use Rattle.lines.specs.Lines.{placeAfter}
 use Rattle.group.specs.declared.State.{State}
 use Rattle.group.specs.Table.{most}
 use Rattle.group.specs.Hearing.{isPlace}
 use Rattle.server.specs.Hearing.{heardAll}
 use Rattle.group.specs.Frame.{heardLines, timedLines, advanced, frameLines}
 use Rattle.frame.specs.declared.Told.{Told}
-use Rattle.places.specs.Words.{beatsUnit, rankNumber, sendingNumber}
+use Rattle.places.specs.Words.{priorityUnit, revealUnit, beatsUnit, sendingEnd, rankNumber, sendingNumber}
 use Rattle.places.specs.Roles.{isBackup, isProspect, isStill}
 use Rattle.places.specs.Order.{comesBy, heardBy}
+use Rattle.frame.specs.Answers.{frameBytes}
 
 -- ---- lines, written or only counted
 
@@ -49,7 +50,7 @@ staysUnder s r = isProspect (s .role) && leb r (rankNumber s)
 
 -- the backup s is below the rank r of a sender that sent n, and passed to nobody
 abbrev pub heedsOnly : Server → ℕ → ℕ → Bool
-heedsOnly s r n = isBackup (s .role) && (ltb (rankNumber s) r && (not (eqb n 0) && eqb (n % 65536) 0))
+heedsOnly s r n = isBackup (s .role) && (ltb (rankNumber s) r && (not (eqb n 0) && eqb (n % revealUnit) 0))
 
 -- a backup hears plain beats, and nothing else, of the sender x
 abbrev pub onlyListens : Server → Server → Bool
@@ -97,15 +98,15 @@ sentBelow l (suc n) = sentBelow l n ++ choose (sentAny (getD l n absent)) (n ∷
 abbrev pub senderOf : ℕ → ℕ → Server
 senderOf r n =
     record {
-      identity = r % 65536;
-      priority = r / 65536;
+      identity = r % priorityUnit;
+      priority = r / priorityUnit;
       role = Down;
       silence = 0;
       beat = 0;
       prospect = 0;
-      beats = n / 131072;
-      reveal = eqb (n / 65536 % 2) 1;
-      pass = n % 65536;
+      beats = n / beatsUnit;
+      reveal = eqb (n / revealUnit % 2) 1;
+      pass = n % revealUnit;
     }
 
 -- who sent: the first `count` of `places`; of every place its rank and what it sent, as numbers
@@ -125,14 +126,14 @@ pub record Listed (l : List ℕ) (n : ℕ) : Type 0 where
 pub record Numbers (r : SenderList) : Type 0 where
   pub listed : Listed (r .places) (r .count)
   pub ranks : (i : ℕ) → i < most → getD (r .ranks) i 0 < 16777216
-  pub sendings : (i : ℕ) → i < most → getD (r .sendings) i 0 < 33554432
+  pub sendings : (i : ℕ) → i < most → getD (r .sendings) i 0 < sendingEnd
 
 -- which of the servers l sent, and what
 pub record Sends (l : List Server) (places sendings : List ℕ) (n : ℕ) : Type 0 where
   pub listed : Listed places n
   pub these : take n places ≡ sentBelow l most
-  pub sent : (i : ℕ) → i < most → (getD sendings i 0 ≡ sendingNumber (getD l i absent)) × (getD sendings i 0 < 33554432)
-  pub fits : (i : ℕ) → i < most → (getD l i absent .identity < 65536) × (getD l i absent .pass < 65536)
+  pub sent : (i : ℕ) → i < most → (getD sendings i 0 ≡ sendingNumber (getD l i absent)) × (getD sendings i 0 < sendingEnd)
+  pub fits : (i : ℕ) → i < most → (getD l i absent .identity < priorityUnit) × (getD l i absent .pass < revealUnit)
 
 -- the numbers of the servers l, and which of them sent
 pub record Lists (l : List Server) (r : SenderList) : Type 0 where
@@ -140,8 +141,8 @@ pub record Lists (l : List Server) (r : SenderList) : Type 0 where
   pub these : take (r .count) (r .places) ≡ sentBelow l most
   pub ranks : (i : ℕ) → i < most → getD (r .ranks) i 0 ≡ rankNumber (getD l i absent)
   pub sendings : (i : ℕ) → i < most → getD (r .sendings) i 0 ≡ sendingNumber (getD l i absent)
-  pub identities : (i : ℕ) → i < most → getD l i absent .identity < 65536
-  pub passes : (i : ℕ) → i < most → getD l i absent .pass < 65536
+  pub identities : (i : ℕ) → i < most → getD l i absent .identity < priorityUnit
+  pub passes : (i : ℕ) → i < most → getD l i absent .pass < revealUnit
 
 -- no server of l sent a greater number than r
 pub record Loud (l : List Server) (r : ℕ) : Type 0 where
@@ -252,7 +253,7 @@ pub record AllRest (t : ℕ) (p : Period) (l : List Server) (r : ℕ) : Type 0 w
 
 -- no frame writes more bytes where no number of what was sent is greater
 abbrev pub mostBytes : ℕ → ℕ
-mostBytes loud = most * (2 * longest * (most * (loud / beatsUnit + 2)) + 6 * longest)
+mostBytes loud = frameBytes (loud / beatsUnit)
 
 -- a place in a slice of so many bytes, or one past its end
 unfoldable pub clamped : ℕ → ℕ → ℕ

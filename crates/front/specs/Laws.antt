@@ -55,6 +55,6 @@ pub record Laws : Type 0 where
 
 -- the front of the server i with the priority p and the period n, or 2; and what holds of all
 -- fronts
-pub record FrontMade (i p n : ℕ) (r : FrontAnswer) : Type 0 where
+pub record FrontNew (i p n : ℕ) (r : FrontAnswer) : Type 0 where
   pub answer : ofFront r ≡ takeFront i p n
   pub laws : Laws

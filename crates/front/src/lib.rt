@@ -11,7 +11,7 @@ use server::Server;
 use timecode::Timecode;
 ghost use mathlib.Core.Path.{_≡_};
 ghost use Rattle.front.specs.Front.{withServer, FrontBegins, hearing, FrontHears, timing, FrontTicks, FrontActs};
-ghost use Rattle.front.specs.Laws.{FrontMade};
+ghost use Rattle.front.specs.Laws.{FrontNew};
 
 // One server, the present frame, and the period of its channel.
 pub struct Front {
@@ -73,7 +73,7 @@ pub struct AfterVerb {
 impl Front {
     // The front of an idle server at frame 0; 2 for identity 0, or a period out of range.
     pub fn new(identity: u16, priority: u8, period: u32) -> FrontAnswer
-        ensures { λ r. ⌜ FrontMade identity priority period r ⌝ }
+        ensures { λ r. ⌜ FrontNew identity priority period r ⌝ }
     {
         let made = Server::new(identity, priority);
         let verdict = made.verdict;

@@ -145,7 +145,7 @@ OtherLinksStay =
     (c : State) (v : Verb) (a b : ℕ) (d : List ℕ) (i j : ℕ) → linkOf i j ≢ linkOf (placeOf c a) (placeOf c b) →
     whole (callChannel c (verb v a b d)) i j ≡ whole c i j
 
--- an accepted verb leaves its own link cut or whole as `cutByVerb` says
+-- an accepted `cut` or `mend` leaves its link as `cutByVerb` says, another verb as it was
 abbrev pub ItsLinkIsAsCut : Type 0
 ItsLinkIsAsCut =
     (c : State) (v : Verb) (a b : ℕ) (d : List ℕ) → callNumber c (verb v a b d) ≡ 0 → linkOf (placeOf c a) (placeOf c b) < length (c .whole) →

@@ -38,8 +38,8 @@ longest = 27
 abbrev pub refusedWord : ℕ → List ℕ
 refusedWord n = bytes "refused-" ++ digits n
 
--- "the sheet line of a refusal": of a call of server i in frame t. Document 01 has it for refusals
--- of calls; on those of input it is silent
+-- "the sheet line of a refusal": of a call of server i in frame t. An input refusal has a line of
+-- another form (`inputRefusal` of the crate day); on this one with such a number document 01 is silent
 abbrev pub refusedLine : ℕ → ℕ → Refusal → List ℕ
 refusedLine t i r = line t i (refusedWord (numberOf r))
 

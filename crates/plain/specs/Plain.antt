@@ -2,7 +2,7 @@
 -- stand for (`..Of`), and how a value is encoded (`plain..`).
 use mathlib.Core.Bool.{Bool, _&&_}
 use mathlib.Core.List.{map}
-use Prim.Native.Nat.{ℕ}
+use Prim.Native.Nat.{ℕ, _*_}
 use lib.Dec.{eqb}
 use lib.ListN.{replicate}
 use Rattle.lists.specs.Choice.{choose}
@@ -15,7 +15,7 @@ use Rattle.front.specs.declared.Front.{Front}
 use Rattle.group.specs.declared.Table.{Table}
 use Rattle.group.specs.declared.State.{State}
 use Rattle.group.specs.Table as group
-use Rattle.group.specs.Table.{tableWith}
+use Rattle.group.specs.Table.{most, tableWith}
 use Rattle.places.specs.Words.{roleOf}
 use Rattle.plain.specs.declared.PlainServer.{PlainServer}
 use Rattle.plain.specs.declared.PlainFront.{PlainFront}
@@ -125,4 +125,4 @@ abbrev pub plainChannel : State → PlainChannel
 plainChannel c = record { frame = c .frame; period = c .period .frames; servers = map plainServer (c .servers); whole = map plainBit (c .whole) }
 
 abbrev pub noChannel : PlainChannel
-noChannel = record { frame = 0; period = 0; servers = replicate 16 noServer; whole = replicate 256 0 }
+noChannel = record { frame = 0; period = 0; servers = replicate most noServer; whole = replicate (most * most) 0 }

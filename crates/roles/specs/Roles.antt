@@ -32,7 +32,7 @@ roleNumber Primary = 5
 abbrev pub inRoleOf : Role → Role → Bool
 inRoleOf a b = eqb (roleNumber a) (roleNumber b)
 
--- "in backup, prospect or primary": the roles that hear and have timers
+-- (demand 3) "in backup, prospect or primary": the roles that hear and have timers
 unfoldable pub isActive : Role → Bool
 isActive Down = false
 isActive Idle = false
@@ -41,7 +41,7 @@ isActive Backup = true
 isActive Prospect = true
 isActive Primary = true
 
--- "prospect or primary": the roles that beat
+-- (demand 3) "prospect or primary": the roles that beat
 unfoldable pub isBeating : Role → Bool
 isBeating Down = false
 isBeating Idle = false

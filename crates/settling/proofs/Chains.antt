@@ -78,9 +78,11 @@ module _ {X K : Type 0} (Called : X → K → ℕ → X → Type 0) (stateOf : X
           led = λ ls ns y c e late.
               let q = channels g c .1 in
               subst (Led (stateOf x) (s .server)) (sym q) (s .led (calls ls) (refused c e) (omega (arith, late, ap (λ (d : State). d .frame) q)));
-          highest = λ ls ns y c e f quiet.
+          within = s .within;
+          next = λ ls ns y c e f.
               let q = channels g c .1 in
-              s .highest (subst NoneProspectOrPrimary (q ∙ one-frame (stateOf x) (calls ls) (refused c e) (sym (ap (λ (d : State). d .frame) q) ∙ f)) quiet);
+              q ∙ one-frame (stateOf x) (calls ls) (refused c e) (sym (ap (λ (d : State). d .frame) q) ∙ f);
+          highest = s .highest;
         }
 
   -- from a fresh channel on

@@ -8,6 +8,8 @@ use Rattle.lists.specs.Choice.{choose}
 use Rattle.group.specs.declared.State.{State}
 use Rattle.group.specs.Table.{most}
 use Rattle.group.specs.Hearing.{place}
+use Rattle.group.specs.Frame.{advanced}
+use Rattle.group.specs.Advance.{advancedBy}
 use Rattle.group.specs.Calls.{Call}
 use Rattle.group.specs.Links.{cutByCall}
 use Rattle.settling.specs.Demand.{isVerb, InThoseRoles, NoneProspectOrPrimary, HighestOfThem, Led, settlingTime}
@@ -39,7 +41,7 @@ module _ {X K : Type 0} (Called : X → K → ℕ → X → Type 0) (stateOf : X
   verbsRefusedBy (k ∷ ks) [] = true
   verbsRefusedBy (k ∷ ks) (n ∷ ns) = choose (isVerb (callOf k)) (not (eqb n 0)) true && verbsRefusedBy ks ns
 
-  -- the channel x is settled w frames later; the fields are those of `Settles`
+  -- the channel x is settled w frames later: as `Settles` has it, of the channels handed back
   pub record ChainSettles (w : ℕ) (x : X) : Type 0 where
     pub server : ℕ
     pub known : server < most
@@ -48,10 +50,14 @@ module _ {X K : Type 0} (Called : X → K → ℕ → X → Type 0) (stateOf : X
     pub led :
         (ls : List K) (ns : List ℕ) (y : X) → Chain x ls ns y → verbsRefusedBy ls ns ≡ true → stateOf x .frame + w ≤ stateOf y .frame →
         Led (stateOf x) server (stateOf y)
-    -- (demand 3) "at the end of the next frame after the one the list ends in"
-    pub highest :
+    -- also in the frames inside of an advance over several
+    pub within : (k : ℕ) → w ≤ k → Led (stateOf x) server (advancedBy k (stateOf x))
+    -- (demand 3) "the next frame after the one the list ends in" is the same however it is reached
+    pub next :
         (ls : List K) (ns : List ℕ) (y : X) → Chain x ls ns y → verbsRefusedBy ls ns ≡ true → stateOf y .frame ≡ stateOf x .frame + 1 →
-        NoneProspectOrPrimary (stateOf y) → HighestOfThem (stateOf x) server
+        stateOf y ≡ advanced (stateOf x)
+    -- (demand 3) "none was prospect or primary, the one chosen is the highest"
+    pub highest : NoneProspectOrPrimary (advanced (stateOf x)) → HighestOfThem (stateOf x) server
 
   -- demand 3 of every chain of calls from x on, a fresh channel with the period n
   abbrev pub ChainsSettle : ℕ → X → Type 0
