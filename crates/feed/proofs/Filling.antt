@@ -63,6 +63,6 @@ fill-ends x {s} {l₀} {l} {n} {i} w k v t =
       takes = t;
       leaves =
           subst (λ (g : Fed). Leaves x w k i g y w k) (t .fed)
-          (leaves-by l (v .place ∙ sym (chosen _ (eq-eqb (x .number) (x .number) refl))) (λ e. (refl, refl, refl, refl)) (λ z. z));
+          (leaves-by l (v .place ∙ sym (chosen _ (eq-eqb (x .number) (x .number) refl))) (λ e. (refl, refl, refl, refl)) (λ z. z) (λ s h. absurd (h s)));
       line = line-filled v (λ h. let z = v .fits h in sym (length-take-le (x .length) l₀ (omega arith))) ∙ ap (λ (a : ℕ). splice l₀ (length (f .line)) (take a s)) (t .used);
     }

@@ -39,8 +39,8 @@ use Rattle.feed.specs.declared.Stage.the-variants.{AtPeriod, AtServers, 
 use Rattle.feed.specs.declared.Feed.{Feed}
 use Rattle.feed.specs.declared.Step.{Step}
 use Rattle.feed.specs.Answers.{dayOf, channelOf, fedOf}
-use Rattle.feed.specs.Steps.{MakesAll, turned, refusing, RefusesCall}
-use Rattle.feed.proofs.Leaving.{not-refused, made-entries, passes-same, passes-turned}
+use Rattle.feed.specs.Steps.{Made, MakesAll, turned, refusing, RefusesCall}
+use Rattle.feed.proofs.Leaving.{not-refused, made-servers, made-entries, made-close, passes-same, passes-turned}
 use Rattle.feed.proofs.Making.{makes-written, makes-refused, makes-as, does-as}
 
 -- ---- stages
@@ -56,6 +56,13 @@ module _ (x : Feed) {g : Stage} (e : x .stage ≡ g) where
   place-at c q = q ∙ ap (λ (s : Stage). placeRefusal (dayOf s c .stage) (dayOf s c .channel)) (sym e)
 
 -- where entries may come there is a channel
+pub open-made : (g : Stage) (c : State) → placeRefusal (dayOf g c .stage) (dayOf g c .channel) ≡ 0 → Made g
+unfolding placeRefusal
+open-made AtPeriod c e = absurd (omega arith)
+open-made AtServers c e = made-servers
+open-made AtEntries c e = made-entries
+open-made AtClose c e = made-close
+
 pub open-channel : (g : Stage) (c : State) → placeRefusal (dayOf g c .stage) (dayOf g c .channel) ≡ 0 → c ≡ dayOf g c .channel
 unfolding placeRefusal
 open-channel AtPeriod c e = absurd (omega arith)
@@ -134,13 +141,13 @@ module _ (x : Feed) (l w : List ℕ) (k : List Bool) (v : Verb) (a b : ℕ) {d :
   abbrev c : State
   c = channelOf x w k
 
-  pub call-so : {y : Feed} → (Canonical w → Canonical w′) → u ≡ Accepted → y ≡ turned x AtEntries → MakesAll x l w k (effectMove f (callEffect [] c v a b)) d (To n) y w′ k′ d₁
-  call-so {y} form e q =
+  pub call-so : {y : Feed} → Made (x .stage) → (Canonical w → Canonical w′) → u ≡ Accepted → y ≡ turned x AtEntries → MakesAll x l w k (effectMove f (callEffect [] c v a b)) d (To n) y w′ k′ d₁
+  call-so {y} h form e q =
       record {
         makes =
             makes-as (ap (effectMove f) (sym (call-allowed c v a b g e)))
             (makes-written (gives-written g e) (ap (λ (z : Feed). fedOf z l w′ k′) q ∙ ap (λ (z : State). nextLine f (during atEntries z)) (gives-channel g e)));
-        passes = passes-turned form made-entries q;
+        passes = passes-turned form (λ s. absurd (h s)) made-entries q;
         same = λ i z. not-refused z;
       }
 

@@ -39,7 +39,8 @@ channelOf f w k = stateOf (f .frame) (f .period) (serversOf w) k
 
 -- what a feed stands for with all that is lent to it, l being the bytes of the line. It forgets the
 -- bytes behind those that have come, numbers and links before the period has come, and which
--- numbers stand for the same servers. Contracts decide these too: `Leaves`, `lineTaken`
+-- numbers stand for the same servers. Contracts decide these too (`Leaves`, `lineTaken`), but for
+-- numbers that are not canonical and were lent after the period had come
 abbrev pub fedOf : Feed → List ℕ → List ℕ → List Bool → Fed
 fedOf f l w k = record { over = f .over; number = f .number; line = take (f .length) l; day = dayOf (f .stage) (channelOf f w k) }
 
@@ -83,15 +84,17 @@ wordsAfter w f = choose (unmade (f .day .stage)) w (wordsOf (f .day .channel .se
 unfoldable pub linksAfter : List Bool → Fed → List Bool
 linksAfter k f = choose (unmade (f .day .stage)) k (f .day .channel .whole)
 
--- the bytes l of a line after those of the piece s that f takes
+-- the bytes l lent for the line, once f has taken its bytes of the piece s
 abbrev pub lineTaken : Fed → List ℕ → List ℕ → List ℕ
 lineTaken f s l = splice l (length (f .line)) (take (takenBytes f s) s)
 
 -- The feed x, the numbers w and the links k become x′, w′ and k′ where n bytes are taken and f is
--- known. Of numbers that are not canonical, made by another hand, the servers are decided (`fedOf`)
+-- known. The period's line writes every number anew, so those lent before it may be any; of numbers
+-- lent later that are not canonical, made by another hand, the servers are decided (`fedOf`)
 pub record Leaves (x : Feed) (w : List ℕ) (k : List Bool) (n : ℕ) (f : Fed) (x′ : Feed) (w′ : List ℕ) (k′ : List Bool) : Type 0 where
   pub feed : x′ ≡ feedAfter x n f
   pub words : Canonical w → w′ ≡ wordsAfter w f
+  pub opened : x .stage ≡ AtPeriod → w′ ≡ wordsAfter w f
   pub before : unmade (f .day .stage) ≡ true → w′ ≡ w
   pub links : k′ ≡ linksAfter k f
 

@@ -30,11 +30,17 @@ use Rattle.feed.specs.Answers.{channelOf, fedOf, TakesIn, Makes}
 abbrev pub Fills : Feed → List ℕ → List ℕ → Filled → Type 0
 Fills x l s r = (w : List ℕ) (k : List Bool) → TakesIn x l w k s (r .used) (r .feed) (r .line)
 
--- a line that is kept or done, before there is a channel or on one
+-- a stage where the period has come, so that there is a channel
+abbrev pub Made : Stage → Type 0
+Made g = g ≡ AtPeriod → ⊥
+
+-- a line that is kept or done, before there is a channel or on one; where the channel is made its
+-- numbers are canonical
 pub record Passes (x : Feed) (w : List ℕ) (k : List Bool) (x′ : Feed) (w′ : List ℕ) (k′ : List Bool) : Type 0 where
   pub line : ((x′ .number ≡ x .number) × (x′ .length ≡ x .length)) ⊎ ((x .number < x′ .number) × (x′ .length ≡ 0))
   pub before : x′ .stage ≡ AtPeriod → (x .stage ≡ AtPeriod) × (x′ .frame ≡ x .frame) × (x′ .period ≡ x .period) × (w′ ≡ w) × (k′ ≡ k)
   pub form : Canonical w → Canonical w′
+  pub opened : x .stage ≡ AtPeriod → Made (x′ .stage) → Canonical w′
 
 -- the move m, and what becomes of the feed and of what is lent to it
 pub record MakesAll (x : Feed) (l w : List ℕ) (k : List Bool) (m : Move) (d : List ℕ) (p : Written) (x′ : Feed) (w′ : List ℕ) (k′ : List Bool) (d′ : List ℕ) : Type 0 where
@@ -74,7 +80,7 @@ pub record Follows (f : Fed) (n : ℕ) (d : List ℕ) (p : Written) (f′ : Fed)
 pub record FollowsAll (x : Feed) (l w : List ℕ) (k : List Bool) (n : ℕ) (d : List ℕ) (p : Written) (x′ : Feed) (w′ : List ℕ) (k′ : List Bool) (d′ : List ℕ) : Type 0 where
   pub follows : Follows (fedOf x l w k) n d p (fedOf x′ l w′ k′) d′
   pub passes : Passes x w k x′ w′ k′
-  pub taken : (i : Refusal) → p ≡ Refused i → ⊥
+  pub accepted : (i : Refusal) → p ≡ Refused i → ⊥
 
 -- after a write that was done, or refused
 abbrev pub ifWritten : Written → Feed → Feed → Feed

@@ -32,7 +32,7 @@ ghost use Rattle.feeding.specs.Fed.{wholeLine};
 ghost use Rattle.feeding.specs.Moves.{ended, stopping, going, effectMove, framesNow, advancing, placedMove, lineMove, stepMove, stepsMove};
 ghost use Rattle.feeding.specs.Steps.{onMove, Sized};
 ghost use Rattle.feed.specs.Answers.{fedOf, Begins, Waits, IsOver, TakesTo, MakesIn, Finishes};
-ghost use Rattle.feed.specs.Steps.{Fills, Does, Keeps, Becomes, IsOf, FollowsAll, turned, Puts, refusing, RefusesCall, Opens};
+ghost use Rattle.feed.specs.Steps.{Fills, Made, Does, Keeps, Becomes, IsOf, FollowsAll, turned, Puts, refusing, RefusesCall, Opens};
 
 // Which lines have come.
 pub enum Stage {
@@ -409,7 +409,7 @@ impl Feed {
 
     // The line of a refusal from the state; 9.
     fn refuse(self, identity: u16, k: Refusal, out: &mut [u8]) -> Step
-        requires { ⌜ self .number ≤ lastLine ⌝ }
+        requires { ⌜ (self .number ≤ lastLine) × Made (self .stage) ⌝ }
         ensures { λ r. ⌜ Keeps self (refusing identity (numberOf k)) (now (out .entry)) r (now (out .exit)) ⌝ }
     {
         let written = lines::write_refused(out, self.frame, identity, k);
@@ -419,7 +419,7 @@ impl Feed {
 
     // As many frames towards a later time as fit; 9.
     fn advance(self, words: &mut Packed, whole: &Links, time: u32, out: &mut [u8]) -> Step
-        requires { ⌜ self .frame < time ⌝ }
+        requires { ⌜ (self .frame < time) × Made (self .stage) ⌝ }
         ensures { λ r. ⌜ Does self (now (words .entry)) (now (whole .entry)) (λ f c. advancing f c (framesNow c (time - c .frame) (length (now (out .entry))))) (now (out .entry)) r (now (words .exit)) (now (whole .entry)) (now (out .exit)) ⌝ }
     {
         let period = self.period;
@@ -449,7 +449,7 @@ impl Feed {
 
     // The number of a refused verb; 9.
     fn refuse_call(self, identity: u16, k: Refusal, out: &mut [u8]) -> Step
-        requires { ⌜ self .number ≤ lastLine ⌝ }
+        requires { ⌜ (self .number ≤ lastLine) × Made (self .stage) ⌝ }
         ensures { λ r. ⌜ RefusesCall self identity k (now (out .entry)) r (now (out .exit)) ⌝ }
     {
         if k.number() == 9 {
@@ -472,7 +472,7 @@ impl Feed {
         b: u16,
         out: &mut [u8],
     ) -> Step
-        requires { ⌜ self .number ≤ lastLine ⌝ }
+        requires { ⌜ (self .number ≤ lastLine) × Made (self .stage) ⌝ }
         ensures { λ r. ⌜ Does self (now (words .entry)) (now (whole .entry)) (λ f c. effectMove f (callEffect [] c verb a b)) (now (out .entry)) r (now (words .exit)) (now (whole .exit)) (now (out .exit)) ⌝ }
     {
         let acted = verbs::act(words, whole, self.frame, verb, a, b, out);
@@ -497,7 +497,7 @@ impl Feed {
         b: u16,
         out: &mut [u8],
     ) -> Step
-        requires { ⌜ self .number ≤ lastLine ⌝ }
+        requires { ⌜ (self .number ≤ lastLine) × Made (self .stage) ⌝ }
         ensures { λ r. ⌜ Does self (now (words .entry)) (now (whole .entry)) (λ f c. onMove f (length (now (out .entry))) c (entry time verb a b) (entryEffect c time verb a b)) (now (out .entry)) r (now (words .exit)) (now (whole .exit)) (now (out .exit)) ⌝ }
     {
         if !verbs::knows(words, verb, a, b) {
@@ -514,7 +514,7 @@ impl Feed {
 
     // `end` on the channel: 11, its time.
     fn end(self, words: &mut Packed, whole: &Links, time: u32, out: &mut [u8]) -> Step
-        requires { ⌜ self .number ≤ lastLine ⌝ }
+        requires { ⌜ (self .number ≤ lastLine) × Made (self .stage) ⌝ }
         ensures { λ r. ⌜ Does self (now (words .entry)) (now (whole .entry)) (λ f c. onMove f (length (now (out .entry))) c (end time) (endEffect c time)) (now (out .entry)) r (now (words .exit)) (now (whole .entry)) (now (out .exit)) ⌝ }
     {
         let frame = self.frame;

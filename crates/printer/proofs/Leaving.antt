@@ -19,7 +19,7 @@ use Rattle.feed.specs.declared.Feed.{Feed}
 use Rattle.feed.specs.declared.Stage.{Stage}
 use Rattle.feed.specs.declared.Stage.the-variants.{AtPeriod, AtServers, AtEntries, AtClose}
 use Rattle.feed.specs.Answers.{dayOf, channelOf, fedOf, unmade, feedAfter, wordsAfter, linksAfter, Leaves}
-use Rattle.feed.proofs.Leaving.{same-parts, passes-same, leaves-passed}
+use Rattle.feed.proofs.Leaving.{unmade-is, same-parts, passes-same, leaves-passed}
 use Rattle.printer.specs.declared.Put.{Put}
 use Rattle.printer.specs.declared.Turned.{Turned}
 use Rattle.printer.specs.Print.{turnMove}
@@ -42,20 +42,23 @@ short-same (Refused k) e h z = h k refl
 
 -- ---- one after the other
 
--- numbers that were canonical are
 channel-is : (g : Stage) (c : State) → unmade (dayOf g c .stage) ≡ false → dayOf g c .channel ≡ c
 channel-is AtPeriod c e = absurd (clash refl e)
 channel-is AtServers c e = refl
 channel-is AtEntries c e = refl
 channel-is AtClose c e = refl
 
-form-then : {x : Feed} {w : List ℕ} {k : List Bool} {n : ℕ} {y : Feed} (l : List ℕ) {w′ : List ℕ} {k′ : List Bool} → Leaves x w k n (fedOf y l w′ k′) y w′ k′ → Canonical w → Canonical w′
+-- numbers that are decided, where there is a channel, are canonical
+form-made : (w : List ℕ) (y : Feed) (l : List ℕ) {w′ : List ℕ} (k′ : List Bool) → w′ ≡ wordsAfter w (fedOf y l w′ k′) → unmade (fedOf y l w′ k′ .day .stage) ≡ false → Canonical w′
 unfolding wordsAfter
-form-then {y = y} l {w′} {k′} q f =
-    let c = channelOf y w′ k′ in
-    on (tested (unmade (dayOf (y .stage) c .stage)))
+form-made w y l {w′} k′ q e = q ∙ other _ e ∙ ap (λ (s : State). wordsOf (s .servers)) (channel-is (y .stage) (channelOf y w′ k′) e)
+
+-- numbers that were canonical are
+form-then : {x : Feed} {w : List ℕ} {k : List Bool} {n : ℕ} {y : Feed} (l : List ℕ) {w′ : List ℕ} {k′ : List Bool} → Leaves x w k n (fedOf y l w′ k′) y w′ k′ → Canonical w → Canonical w′
+form-then {w = w} {y = y} l {w′} {k′} q f =
+    on (tested (unmade (fedOf y l w′ k′ .day .stage)))
     (λ e. subst Canonical (sym (q .before e)) f)
-    (λ e. q .words f ∙ other _ e ∙ ap (λ (s : State). wordsOf (s .servers)) (channel-is (y .stage) c e))
+    (λ e. form-made w y l k′ (q .words f) e)
 
 -- what is kept until there is a channel
 kept-on : {A : Type 0} (s t : Bool) (a b c : A) → (t ≡ true → s ≡ true) → choose t (choose s a b) c ≡ choose t a c
@@ -89,13 +92,21 @@ module _ {x : Feed} {w : List ℕ} {k : List Bool} {i : ℕ} {y : Feed} (l : Lis
   unfolding feedAfter wordsAfter linksAfter
   leaves-then =
       let was = p .feed in
+      let numbers : w₂ ≡ wordsAfter w₁ g → w₁ ≡ wordsAfter w f → w₂ ≡ wordsAfter w g = λ a b. a ∙ ap (λ (u : List ℕ). choose (unmade (g .day .stage)) u (wordsOf (g .day .channel .servers))) b ∙ kept-on _ _ _ _ _ (v .made) in
       record {
         feed =
             q .feed
             ∙ same-parts (g .over) (g .number) long refl
             (ap (λ (a : Feed). choose (unmade (g .day .stage)) (a .frame) (g .day .channel .frame)) was ∙ kept-on _ _ _ _ _ (v .made))
             (ap (λ (a : Feed). choose (unmade (g .day .stage)) (a .period) (g .day .channel .period)) was ∙ kept-on _ _ _ _ _ (v .made));
-        words = λ c. q .words (form-then l p c) ∙ ap (λ (a : List ℕ). choose (unmade (g .day .stage)) a (wordsOf (g .day .channel .servers))) (p .words c) ∙ kept-on _ _ _ _ _ (v .made);
+        words = λ c. numbers (q .words (form-then l p c)) (p .words c);
+        opened =
+            λ s.
+            numbers
+            (on (tested (unmade (f .day .stage)))
+            (λ e. q .opened (unmade-is (y .stage) (channelOf y w₁ k₁) e))
+            (λ e. q .words (form-made w y l k₁ (p .opened s) e)))
+            (p .opened s);
         before = λ e. q .before e ∙ p .before (v .made e);
         links = q .links ∙ ap (λ (a : List Bool). choose (unmade (g .day .stage)) a (g .day .channel .whole)) (p .links) ∙ kept-on _ _ _ _ _ (v .made);
       }

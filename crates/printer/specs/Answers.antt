@@ -28,7 +28,8 @@ pub record Prints (f : Fed) (s : List ℕ) (last : Bool) (d : List ℕ) (r : Pri
   pub laws : Laws
 
 -- the same of the feed x and all that is lent to it: the bytes l of the line, the numbers w of the
--- servers and the links k. Each field, and each element, is decided
+-- servers and the links k. Each field, and each element, is decided, but for numbers that are not
+-- canonical and were lent after the period had come (`Leaves`)
 pub record PrintsIn (x : Feed) (l w : List ℕ) (k : List Bool) (s : List ℕ) (last : Bool) (d : List ℕ) (r : Printed) (l′ w′ : List ℕ) (k′ : List Bool) (d′ : List ℕ) : Type 0 where
   pub prints : Prints (fedOf x l w k) s last d r (fedOf (r .feed) l′ w′ k′) d′
   pub leaves : let p = print (fedOf x l w k) s last (length d) in Leaves x w k (p .used) (p .fed) (r .feed) w′ k′

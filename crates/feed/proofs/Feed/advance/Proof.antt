@@ -15,11 +15,11 @@ returns : tie.Need-returns
 returns c l =
     let a = c .before .before .before .before .before .before .before .before .before .args in
     let f = fedOf (a .self) l (a .words .now) (a .whole .now) in
-    let q = within-done (channelOf (a .self) (a .words .now) (a .whole .now)) (a .time) (c .before .before .before .before .before .before .before .before .before .pre) (c .before .before .before .before .run-within .ensures .gives) (c .enum-told .given .1) in
+    let q = within-done (channelOf (a .self) (a .words .now) (a .whole .now)) (a .time) (c .before .before .before .before .before .before .before .before .before .pre .0) (c .before .before .before .before .run-within .ensures .gives) (c .enum-told .given .1) in
     let g : State → Fed = λ s. record { over = f .over; number = f .number; line = f .line; day = on atEntries s } in
     record {
       makes = makes-written (q .0) (ap g (q .1));
-      passes = passes-on (becomes-keeps (c .before .before .before .before .run-within .ensures .words) .form) made-entries refl refl refl;
+      passes = passes-on (becomes-keeps (c .before .before .before .before .run-within .ensures .words) .form) (λ s. absurd (c .before .before .before .before .before .before .before .before .before .pre .1 s)) made-entries refl refl refl;
       same = λ i z. not-refused z;
     }
 
@@ -30,7 +30,7 @@ returns-2 c l =
     let v = c .before .verdict .given .1 in
     rw (ran .same _ v)
     (record {
-      makes = makes-refused (within-not (channelOf (a .self) (a .words .now) (a .whole .now)) (a .time) (c .before .before .before .before .before .before .before .before .before .before .pre) (ran .gives) v) refl;
+      makes = makes-refused (within-not (channelOf (a .self) (a .words .now) (a .whole .now)) (a .time) (c .before .before .before .before .before .before .before .before .before .before .pre .0) (ran .gives) v) refl;
       passes = passes-same;
       same = λ i z. (refl, refl, refl);
     })

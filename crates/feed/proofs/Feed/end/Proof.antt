@@ -38,7 +38,7 @@ returns-3 c l =
     let f = fedOf (a .self) l w k in
     let s = channelOf (a .self) w k in
     let room = length (a .out .now) in
-    does-as (end-now f room s (a .time) (omega (arith, c .before .before .if1 .left, c .before .if2 .left))) (does-none (ap (λ (x : Feed). fedOf x l w k) (c .turned .ensures)) (passes-turned (λ z. z) made-close (c .turned .ensures)))
+    does-as (end-now f room s (a .time) (omega (arith, c .before .before .if1 .left, c .before .if2 .left))) (does-none (ap (λ (x : Feed). fedOf x l w k) (c .turned .ensures)) (passes-turned (λ z. z) (λ s. absurd (c .before .before .before .before .pre .1 s)) made-close (c .turned .ensures)))
 
 pub end-spec : {M : Type 1} → statement M
 end-spec = tie.close (tie.spec (λ c κs. search needs) (λ c. search needs) returns (λ c κs. search needs) (λ c. search needs) returns-2 (λ c κs. search needs) returns-3)

@@ -21,8 +21,9 @@ returns c d l =
     let same = c .before .before .words-of .ensures .servers ∙ c .before .before .before .servers .ensures ∙ sym (same-servers (a .table .servers) (c .before .before .before .before .pre .1)) in
     let f : Feed → List Server → Fed = λ x s. record { over = x .over; number = x .number; line = take (x .length) l; day = dayOf (x .stage) (stateOf 0 (a .period) s (replicate 256 true)) } in
     let p = c .before .before .words-of .ensures in
+    let numbers = p .numbers ∙ ap wordsOf (sym (p .servers)) in
     let on-line = c .turned .ensures in
-    does-none (ap₂ f on-line same) (passes-next (λ z. p .numbers ∙ ap wordsOf (sym (p .servers))) made-servers (ap (λ (x : Feed). x .stage) on-line) (ap (λ (x : Feed). x .number) on-line) (ap (λ (x : Feed). x .length) on-line))
+    does-none (ap₂ f on-line same) (passes-next (λ z. numbers) (λ z. numbers) made-servers (ap (λ (x : Feed). x .stage) on-line) (ap (λ (x : Feed). x .number) on-line) (ap (λ (x : Feed). x .length) on-line))
 
 pub listed-spec : {M : Type 1} → statement M
 listed-spec = tie.close (tie.spec (λ c κs. search needs) (λ c κs. search needs) (λ c κs. search needs) returns)

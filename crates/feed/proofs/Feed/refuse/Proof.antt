@@ -13,7 +13,7 @@ returns : tie.Need-returns
 returns c w k l =
     let a = c .before .before .before .before .before .before .before .args in
     does-as (ap (λ (x : Feed). record { lines = refusal (channelOf (a .self) w k) (a .identity) (numberOf (a .k)); fed = fedOf x l w k }) (c .before .turned .ensures))
-    (does-put l w k (c .before .before .before .before .write-refused .ensures) (c .put .ensures) (passes-turned (λ z. z) made-entries (c .before .turned .ensures)))
+    (does-put l w k (c .before .before .before .before .write-refused .ensures) (c .put .ensures) (passes-turned (λ z. z) (λ s. absurd (c .before .before .before .before .before .before .before .pre .1 s)) made-entries (c .before .turned .ensures)))
 
 pub refuse-spec : {M : Type 1} → statement M
 refuse-spec = tie.close (tie.spec (λ c κs. search needs) (λ c κs. search needs) (λ c κs. search needs) (λ c. search needs) returns)

@@ -14,7 +14,7 @@ returns c =
     let w = a .words .now in
     let k = a .whole .now in
     let f = fedOf (a .self) (a .line .now) w k in
-    record { follows = follows-none f (a .n) (a .out .now) (sym (c .before .waits .ensures w k) ∙ not-true _ (c .if1 .taken)); passes = passes-same; taken = λ i e. not-refused e }
+    record { follows = follows-none f (a .n) (a .out .now) (sym (c .before .waits .ensures w k) ∙ not-true _ (c .if1 .taken)); passes = passes-same; accepted = λ i e. not-refused e }
 
 sub-go : tie.Need-sub-go
 sub-go c = c .before .before .before .before .before .pre .0
@@ -42,7 +42,7 @@ returns-2 c =
     let w = a .words .now in
     let k = a .whole .now in
     let f = fedOf (a .self) (a .line .now) w k in
-    record { follows = follows-made f (a .n) (a .out .now) (sym (c .before .before .before .before .before .before .before .before .before .before .before .waits .ensures w k) ∙ not-false _ (c .before .before .before .before .before .before .before .before .before .before .if1 .left)) (c .before .before .before .before .before .before .before .before .before .before .before .before .before .pre .2 (sym (c .before .before .before .before .before .before .before .before .before .before .before .waits .ensures w k) ∙ not-false _ (c .before .before .before .before .before .before .before .before .before .before .if1 .left))) (c .before .before .before .before .before .before .go .ensures (a .line .now) .makes) refl (c .before .written .given .1); passes = c .before .before .before .before .before .before .go .ensures (a .line .now) .passes; taken = λ i e. not-refused e }
+    record { follows = follows-made f (a .n) (a .out .now) (sym (c .before .before .before .before .before .before .before .before .before .before .before .waits .ensures w k) ∙ not-false _ (c .before .before .before .before .before .before .before .before .before .before .if1 .left)) (c .before .before .before .before .before .before .before .before .before .before .before .before .before .pre .2 (sym (c .before .before .before .before .before .before .before .before .before .before .before .waits .ensures w k) ∙ not-false _ (c .before .before .before .before .before .before .before .before .before .before .if1 .left))) (c .before .before .before .before .before .before .go .ensures (a .line .now) .makes) refl (c .before .written .given .1); passes = c .before .before .before .before .before .before .go .ensures (a .line .now) .passes; accepted = λ i e. not-refused e }
 
 returns-3 : tie.Need-returns-3
 returns-3 c =
@@ -50,7 +50,7 @@ returns-3 c =
     let w = a .words .now in
     let k = a .whole .now in
     let f = fedOf (a .self) (a .line .now) w k in
-    record { follows = follows-not f (a .n) (a .out .now) (sym (c .before .before .before .before .before .before .before .before .before .before .waits .ensures w k) ∙ not-false _ (c .before .before .before .before .before .before .before .before .before .if1 .left)) (c .before .before .before .before .before .before .before .before .before .before .before .before .pre .2 (sym (c .before .before .before .before .before .before .before .before .before .before .waits .ensures w k) ∙ not-false _ (c .before .before .before .before .before .before .before .before .before .if1 .left))) (c .before .before .before .before .before .go .ensures (a .line .now) .makes) refl (c .enum-told .given .1); passes = c .before .before .before .before .before .go .ensures (a .line .now) .passes; taken = λ i e. not-refused e }
+    record { follows = follows-not f (a .n) (a .out .now) (sym (c .before .before .before .before .before .before .before .before .before .before .waits .ensures w k) ∙ not-false _ (c .before .before .before .before .before .before .before .before .before .if1 .left)) (c .before .before .before .before .before .before .before .before .before .before .before .before .pre .2 (sym (c .before .before .before .before .before .before .before .before .before .before .waits .ensures w k) ∙ not-false _ (c .before .before .before .before .before .before .before .before .before .if1 .left))) (c .before .before .before .before .before .go .ensures (a .line .now) .makes) refl (c .enum-told .given .1); passes = c .before .before .before .before .before .go .ensures (a .line .now) .passes; accepted = λ i e. not-refused e }
 
 pub second-spec : {M : Type 1} → statement M
 second-spec = tie.close (tie.spec (λ c κs. search needs) returns sub-go part-go-start part-go-end go-requires (λ c. search needs) add-t22 (λ c. search needs) (λ c. search needs) returns-2 (λ c. search needs) returns-3)

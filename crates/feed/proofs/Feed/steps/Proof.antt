@@ -44,7 +44,7 @@ returns-2 c =
     let room = length (a .out .now) in
     let q = c .before .before .before .before .before .before .before .before .before .before .before .before .go .ensures l in
     let v = c .before .before .second .ensures in
-    makes-in (record { makes = pairs-made (makes-as (step-is f room (sym (c .before .before .before .before .before .before .before .before .before .before .before .before .before .before .before .before .before .before .before .waits .ensures w k) ∙ not-false _ (c .before .before .before .before .before .before .before .before .before .before .before .before .before .before .before .before .before .before .if1 .left)) (c .before .before .before .before .before .before .before .before .before .before .before .before .before .before .before .before .read .ensures)) (q .makes)) (c .before .before .before .before .before .before .before .written .given .1) (v .follows); passes = passes-then (q .passes) (v .passes); same = λ i e. absurd (v .taken i e) })
+    makes-in (record { makes = pairs-made (makes-as (step-is f room (sym (c .before .before .before .before .before .before .before .before .before .before .before .before .before .before .before .before .before .before .before .waits .ensures w k) ∙ not-false _ (c .before .before .before .before .before .before .before .before .before .before .before .before .before .before .before .before .before .before .if1 .left)) (c .before .before .before .before .before .before .before .before .before .before .before .before .before .before .before .before .read .ensures)) (q .makes)) (c .before .before .before .before .before .before .before .written .given .1) (v .follows); passes = passes-then (q .passes) (v .passes); same = λ i e. absurd (v .accepted i e) })
 
 returns-3 : tie.Need-returns-3
 returns-3 c =
