@@ -24,7 +24,7 @@ frame-runs zero c = omega arith
 frame-runs (suc m) c = let e = frame-runs m c in omega arith
 
 -- the frame after c, if that is where the calls end
-one-frame : (c : State) (ls : List Call) → verbsRefused c ls ≡ true → channelAfter c ls .frame ≡ c .frame + 1 → channelAfter c ls ≡ advanced c
+pub one-frame : (c : State) (ls : List Call) → verbsRefused c ls ≡ true → channelAfter c ls .frame ≡ c .frame + 1 → channelAfter c ls ≡ advanced c
 unfolding runs
 one-frame c ls e f =
     let r = frames-only c ls e in

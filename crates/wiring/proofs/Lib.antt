@@ -1,0 +1,10 @@
+pub mod Sorting
+pub mod Inboxes
+pub mod Members
+pub mod Frames
+pub mod Entries
+pub mod Moves
+pub mod Keeping
+pub mod Settles
+pub mod Adding
+pub mod Days

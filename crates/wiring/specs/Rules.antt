@@ -1,0 +1,19 @@
+-- The number of the rules, and what servers that play by the same rules have of it.
+use mathlib.Core.Path.{_≡_}
+use Prim.Native.Nat.{ℕ}
+use Rattle.wiring.specs.Same.{OneSheet, ProtocolCanBeMet, SortedIsHeard}
+use Rattle.wiring.specs.Settles.{GroupsSettle}
+use Rattle.wiring.specs.Days.{OneSheetOfADay}
+
+-- 1 for the rules of document 01; one more with every change of the rules that a sheet can show
+abbrev pub rulesNumber : ℕ
+rulesNumber = 1
+
+pub record Rules (r : ℕ) : Type 0 where
+  pub number : r ≡ rulesNumber
+  -- (the paper's reason) "one sheet, whoever builds the server"
+  pub sheets : OneSheet
+  pub days : OneSheetOfADay
+  pub met : ProtocolCanBeMet
+  pub sorted : SortedIsHeard
+  pub settles : GroupsSettle

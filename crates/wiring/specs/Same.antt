@@ -1,0 +1,63 @@
+-- A group of fronts wired by the protocol is the channel: "the rules must yield one sheet, whoever
+-- builds the server".
+use mathlib.Core.List.{List, [], _∷_, map}
+use mathlib.Core.Path.{_≡_}
+use Prim.Native.Nat.{ℕ}
+use Rattle.lists.specs.Choice.{choose}
+use Rattle.heartbeat.specs.declared.Heartbeat.{Heartbeat}
+use Rattle.server.specs.declared.Server.{Server}
+use Rattle.server.specs.Server.{sentBy}
+use Rattle.group.specs.declared.Table.{Table}
+use Rattle.group.specs.declared.State.{State}
+use Rattle.group.specs.Table.{isEmpty, freshRefusal, fresh}
+use Rattle.group.specs.Frame as frames
+use Rattle.group.specs.Verbs.{verbOutcome}
+use Rattle.group.specs.Calls.{Call, verb, advance, callChannel, channelAfter, numbersOf}
+use Rattle.group.specs.Laws.{linesAfter}
+use Rattle.wiring.specs.Members.{Member, nobody}
+use Rattle.wiring.specs.Heard.{Group, Comes, Heard, sorted}
+use Rattle.wiring.specs.Group.{newGroup, Move, frame, entry, groupAfter, groupNumbers, groupLines, Wired}
+
+-- the group that the channel c stands for: each server in a front of its own, with what it sent
+abbrev pub memberOf : State → Server → Member
+memberOf c s = choose (isEmpty s) nobody (record { front = record { server = s; frame = c .frame; period = c .period }; sent = sentBy s })
+
+abbrev pub groupOf : State → Group
+groupOf c = record { frame = c .frame; members = map (memberOf c) (c .servers); whole = c .whole }
+
+-- the call of a channel that a move is, with a slice as long as its lines
+abbrev pub callOf : State → Move → Call
+callOf c (frame hear) = advance (frames.frameLines c)
+callOf c (entry v a b) = verb v a b (verbOutcome c v a b .lines)
+
+unfoldable pub callsOf : State → List Move → List Call
+callsOf c [] = []
+callsOf c (k ∷ ks) = callOf c k ∷ callsOf (callChannel c (callOf c k)) ks
+
+-- after the moves ks each front of g holds its server of the channel c, each move got the number of
+-- its call, and the lines are the channel's, byte for byte
+pub record Agrees (c : State) (g : Group) (ks : List Move) : Type 0 where
+  pub group : groupAfter g ks ≡ groupOf (channelAfter c (callsOf c ks))
+  pub numbers : groupNumbers g ks ≡ numbersOf c (callsOf c ks)
+  pub lines : groupLines g ks ≡ linesAfter c (callsOf c ks)
+
+-- for every table and period that are not refused, and every list of frames and entries, refused
+-- ones included
+abbrev pub OneSheet : Type 0
+OneSheet = (t : Table) (n : ℕ) (ks : List Move) → freshRefusal t n ≡ 0 → Wired (newGroup t n) ks → Agrees (fresh t n) (newGroup t n) ks
+
+-- ---- that wires can do it. After any list of moves that was wired so:
+
+-- something can be heard as it must be
+pub record CanHear (g : Group) (j : ℕ) : Type 0 where
+  pub heartbeats : List Heartbeat
+  pub heard : Heard g j heartbeats
+
+abbrev pub ProtocolCanBeMet : Type 0
+ProtocolCanBeMet = (t : Table) (n : ℕ) (ks : List Move) → freshRefusal t n ≡ 0 → Wired (newGroup t n) ks → (j : ℕ) → CanHear (groupAfter (newGroup t n) ks) j
+
+-- and what comes in any interleaving of senders, sorted, is heard as it must be
+abbrev pub SortedIsHeard : Type 0
+SortedIsHeard =
+    (t : Table) (n : ℕ) (ks : List Move) → freshRefusal t n ≡ 0 → Wired (newGroup t n) ks →
+    let g = groupAfter (newGroup t n) ks in (j : ℕ) (hs : List Heartbeat) → Comes g j hs → Heard g j (sorted [] hs)
