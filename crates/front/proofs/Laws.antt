@@ -25,6 +25,7 @@ use Rattle.roles.proofs.Table.{roles, role-at}
 use Rattle.front.specs.declared.Front.{Front}
 use Rattle.front.specs.Front.{goesOn, risen, hearing, timing, happens, withServer}
 use Rattle.front.specs.Laws.{hearings, FrameIsTheStep, RefusedBeginStays, RefusedVerbStays, NumbersTell, Laws}
+use Rattle.front.proofs.Anew.{calls-are-steps, inactive-waits, late-is-fresh, renewed-goes-on}
 use Rattle.server.specs.Hearing.{heardAll}
 
 -- the hearings of a front are those of its server, in the present frame
@@ -88,4 +89,4 @@ numbers-tell f g e =
 -- ---- all of them
 
 pub laws : Laws
-laws = record { frames = frame-is-the-step; begins = refused-begin-stays; verbs = refused-verb-stays; numbers = numbers-tell }
+laws = record { frames = frame-is-the-step; begins = refused-begin-stays; verbs = refused-verb-stays; numbers = numbers-tell; calls = calls-are-steps; waits = inactive-waits; late = late-is-fresh; renewed = renewed-goes-on }

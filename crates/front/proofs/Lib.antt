@@ -1,4 +1,5 @@
 pub mod Making
+pub mod Anew
 pub mod Laws
 pub mod Data
 pub mod Types

@@ -1,5 +1,5 @@
--- Laws of the front. The contract of `Front::new` has them all (`Laws`, below); the proof is `laws`
--- of proofs/Laws.antt.
+-- Laws of the front. The contract of `Front::new` has them all, with those of Anew.antt (`Laws`,
+-- below); the proof is `laws` of proofs/Laws.antt.
 use mathlib.Core.Path.{_≡_}
 use mathlib.Core.List.{List, [], _∷_}
 use Prim.Native.Nat.{ℕ, _+_}
@@ -16,6 +16,7 @@ use Rattle.front.specs.declared.FrontAnswer.{FrontAnswer}
 use Rattle.front.specs.declared.TimedNow.{TimedNow}
 use Rattle.front.specs.declared.ActedNow.{ActedNow}
 use Rattle.front.specs.Front.{frontNumbers, ofFront, takeFront, FrontBegins, hearing, FrontTicks, FrontActs}
+use Rattle.front.specs.Anew.{CallsAreSteps, InactiveWaits, LateIsFresh, RenewedGoesOn}
 
 -- `hear` of each heartbeat, one after the other: the front after it
 unfoldable pub hearings : Front → List Heartbeat → Front
@@ -52,6 +53,10 @@ pub record Laws : Type 0 where
   pub begins : RefusedBeginStays
   pub verbs : RefusedVerbStays
   pub numbers : NumbersTell
+  pub calls : CallsAreSteps
+  pub waits : InactiveWaits
+  pub late : LateIsFresh
+  pub renewed : RenewedGoesOn
 
 -- the front of the server i with the priority p and the period n, or 2; and what holds of all
 -- fronts
