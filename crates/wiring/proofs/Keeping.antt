@@ -33,11 +33,11 @@ use Rattle.wiring.proofs.Moves.{new-agrees}
 abbrev One : List Heartbeat → Type 0
 One l = (h k : Heartbeat) → List·Memᴰ h l → List·Memᴰ k l → h .tiebreaker ≡ k .tiebreaker → sender h ≡ sender k
 
-keep-before : (h k : Heartbeat) (l : List Heartbeat) → higher (sender h) (sender k) ≡ true → keep h (k ∷ l) ≡ h ∷ k ∷ l
+pub keep-before : (h k : Heartbeat) (l : List Heartbeat) → higher (sender h) (sender k) ≡ true → keep h (k ∷ l) ≡ h ∷ k ∷ l
 unfolding keep
 keep-before h k l e = rw (e, keep)
 
-keep-behind : (h k : Heartbeat) (l : List Heartbeat) → higher (sender h) (sender k) ≡ false → keep h (k ∷ l) ≡ k ∷ keep h l
+pub keep-behind : (h k : Heartbeat) (l : List Heartbeat) → higher (sender h) (sender k) ≡ false → keep h (k ∷ l) ≡ k ∷ keep h l
 unfolding keep
 keep-behind h k l e = rw (e, keep)
 
@@ -160,7 +160,7 @@ sorts l (h ∷ hs) f one =
 
 -- ---- of the group of a channel, and so of every group that wired moves reach
 
-sorted-heard : (c : State) → Sound c → (j : ℕ) (hs : List Heartbeat) → Comes (groupOf c) j hs → Heard (groupOf c) j (sorted [] hs)
+pub sorted-heard : (c : State) → Sound c → (j : ℕ) (hs : List Heartbeat) → Comes (groupOf c) j hs → Heard (groupOf c) j (sorted [] hs)
 unfolding falling
 sorted-heard c sound j hs comes =
     let r = sorts [] hs refl (one-sender c sound j hs comes) in

@@ -5,6 +5,7 @@ pub mod Frames
 pub mod Entries
 pub mod Moves
 pub mod Keeping
+pub mod Few
 pub mod Settles
 pub mod Adding
 pub mod Days

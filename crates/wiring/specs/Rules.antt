@@ -1,7 +1,7 @@
 -- The number of the rules, and what servers that play by the same rules have of it.
 use mathlib.Core.Path.{_≡_}
 use Prim.Native.Nat.{ℕ}
-use Rattle.wiring.specs.Same.{OneSheet, ProtocolCanBeMet, SortedIsHeard}
+use Rattle.wiring.specs.Same.{OneSheet, ProtocolCanBeMet, SortedIsHeard, mostHeard, FewAreHeard}
 use Rattle.wiring.specs.Settles.{GroupsSettle}
 use Rattle.wiring.specs.Days.{OneSheetOfADay}
 
@@ -17,3 +17,9 @@ pub record Rules (r : ℕ) : Type 0 where
   pub met : ProtocolCanBeMet
   pub sorted : SortedIsHeard
   pub settles : GroupsSettle
+
+-- ---- how much may come in a frame
+
+pub record MostHeard (r : ℕ) : Type 0 where
+  pub figure : r ≡ mostHeard
+  pub few : FewAreHeard

@@ -2,14 +2,15 @@
 -- builds the server".
 use mathlib.Core.List.{List, [], _∷_, map}
 use mathlib.Core.Path.{_≡_}
-use Prim.Native.Nat.{ℕ}
+use Prim.Native.Nat.{ℕ, _+_, _-_, _*_, _<_, _≤_}
+use lib.ListN.{length}
 use Rattle.lists.specs.Choice.{choose}
 use Rattle.heartbeat.specs.declared.Heartbeat.{Heartbeat}
 use Rattle.server.specs.declared.Server.{Server}
-use Rattle.server.specs.Server.{sentBy}
+use Rattle.server.specs.Server.{mostBeats, sentBy}
 use Rattle.group.specs.declared.Table.{Table}
 use Rattle.group.specs.declared.State.{State}
-use Rattle.group.specs.Table.{isEmpty, freshRefusal, fresh}
+use Rattle.group.specs.Table.{most, isEmpty, freshRefusal, fresh}
 use Rattle.group.specs.Frame as frames
 use Rattle.group.specs.Verbs.{verbOutcome}
 use Rattle.group.specs.Calls.{Call, verb, advance, callChannel, channelAfter, numbersOf}
@@ -61,3 +62,13 @@ abbrev pub SortedIsHeard : Type 0
 SortedIsHeard =
     (t : Table) (n : ℕ) (ks : List Move) → freshRefusal t n ≡ 0 → Wired (newGroup t n) ks →
     let g = groupAfter (newGroup t n) ks in (j : ℕ) (hs : List Heartbeat) → Comes g j hs → Heard g j (sorted [] hs)
+
+-- and no more comes than this to a place in a frame: of 15 other servers, of each at most 15 plain
+-- beats, a reveal and a pass
+abbrev pub mostHeard : ℕ
+mostHeard = (most - 1) * (mostBeats + 2)
+
+abbrev pub FewAreHeard : Type 0
+FewAreHeard =
+    (t : Table) (n : ℕ) (ks : List Move) → freshRefusal t n ≡ 0 → Wired (newGroup t n) ks →
+    let g = groupAfter (newGroup t n) ks in (j : ℕ) (hs : List Heartbeat) → j < most → Comes g j hs → length hs ≤ mostHeard
