@@ -6,11 +6,11 @@
  *
  * A call takes plain integers, structs of them, and slices: bytes lent to it, as a pointer and a
  * length. It gives a number, and with it what it worked out (but for playout_higher, which says yes
- * or no, and playout_table_empty). Number 0: accepted. Any other says why the call was refused, and
- * then nothing was done: a lent struct and a lent slice are as they were, a table or channel comes
- * back as it was handed in, and all else in the answer is 0, roles too. Where several
- * numbers fit, 2 for a struct or an argument that means nothing comes first; then the lowest, but
- * for 9: it is given where the call would otherwise be accepted.
+ * or no, playout_table_empty, playout_rules and playout_version). Number 0: accepted. Any other
+ * says why the call was refused, and then nothing was done: a lent struct and a lent slice are as
+ * they were, a table or channel comes back as it was handed in, and all else in the answer is 0,
+ * roles too. Where several numbers fit, 2 for a struct or an argument that means nothing comes
+ * first; then the lowest, but for 9: it is given where the call would otherwise be accepted.
  *
  * Nothing is kept between calls: no globals, no memory taken, no files, no locks. Calls on
  * different structs and bytes may run in several threads at once.
@@ -37,6 +37,15 @@
 #ifdef __cplusplus
 extern "C" {
 #endif
+
+/* What a program is compiled against; playout_rules and playout_version tell what it is linked
+   with. */
+enum {
+    /* the number of the rules: servers of a group must have the same */
+    PLAYOUT_RULES = 1,
+    /* of the code: 1000 times the major, and the minor */
+    PLAYOUT_VERSION = 1000
+};
 
 /* Why a call was refused. There is no 10. */
 enum {
@@ -126,7 +135,13 @@ enum {
     PLAYOUT_LAST_FRAME = 2159999,
     /* as many bytes are enough for a heartbeat's line, for a timecode, for the lines of one event,
        and for the line of a refusal */
-    PLAYOUT_LINE_BYTES = 64
+    PLAYOUT_LINE_BYTES = 64,
+    /* heartbeats that one server sends in a frame, at most: plain beats, a reveal and a pass */
+    PLAYOUT_SENT = 17,
+    /* heartbeats that one server hears in a frame, at most: those of all others */
+    PLAYOUT_HEARD = 255,
+    /* as many bytes are enough for the lines of one frame of a whole channel that calls made */
+    PLAYOUT_FRAME_BYTES = 237600
 };
 
 /*
@@ -316,6 +331,23 @@ PLAYOUT_SIZE(playout_channel_opened, 588);
 PLAYOUT_SIZE(playout_channel_answered, 600);
 #undef PLAYOUT_SIZE
 #endif
+
+/*
+ * The number of the rules that this library plays by. Two servers of a group compare theirs before
+ * they play together, and do not where they differ: half a group on each side of a change of rules
+ * gives two sheets, and nobody notices. `PLAYOUT_RULES` is the number that a program was compiled
+ * against, this the number of the library that it is linked with; it may compare the two at its
+ * start.
+ */
+uint32_t playout_rules(void);
+
+/*
+ * The version of the library's code: 1000 times the major, which rises where a program must be
+ * changed or built again, and the minor, which rises where something is added. Servers of different
+ * versions play together where their rules have one number. `PLAYOUT_VERSION` is the version that a
+ * program was compiled against, this the one that it is linked with.
+ */
+uint32_t playout_version(void);
 
 /*
  * The front of an idle server at frame 0, of this identity, priority and period in frames. Refused
