@@ -356,20 +356,28 @@ uint32_t playout_version(void);
 playout_front_made playout_front_new(uint16_t identity, uint8_t priority, uint32_t period);
 
 /*
- * The next frame begins, with nothing sent yet. Gives 0, or the number that it is refused with: 2
- * (the front does not decode), 16 (the front is at the day's last frame, or beyond it).
+ * The next frame begins, with nothing sent yet. No frame is left out: a process that fell behind
+ * makes up each one that it missed, with its hearing, `playout_front_tick` and its verbs, before it
+ * goes on; one that cannot was down, and makes a new front. Gives 0, or the number that it is
+ * refused with: 2 (the front does not decode), 16 (the front is at the day's last frame, or beyond
+ * it).
  */
 uint32_t playout_front_begin(playout_front *front);
 
 /*
- * One heartbeat is heard in the present frame. Gives the event and the role afterwards. Refused
- * with 2 (the front does not decode, or the heartbeat's tiebreaker is 0).
+ * One heartbeat is heard in the present frame. Leave out those of the server itself: they are not
+ * refused, each sets a backup's silence timer as another's would, and a backup that hears one in
+ * every frame never steps in. Gives the event and the role afterwards. Refused with 2 (the front
+ * does not decode, or the heartbeat's tiebreaker is 0).
  */
 playout_heard playout_front_hear(playout_front *front, playout_heartbeat heartbeat);
 
 /*
- * The timers of the present frame, after all hearing in it. Gives their events and the role
- * afterwards. Refused with 2 (the front does not decode).
+ * The timers of the present frame, after all hearing in it; in every frame. A timer goes off in the
+ * one frame in which it is due, and not later: where this call is left out in that frame, a backup
+ * never steps in, a primary sends no beat any more, a prospect never goes on air, until something
+ * sets the timer again. Gives their events and the role afterwards. Refused with 2 (the front does
+ * not decode).
  */
 playout_timed playout_front_tick(playout_front *front);
 

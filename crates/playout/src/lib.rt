@@ -383,8 +383,11 @@ fn acted(front: PlainFront, verb: u32, to: u16) -> AfterVerb
 // ---- the steps of a front, in place. A frame is `begin`, a `hear` for each heartbeat heard in it,
 // `tick`, and then verbs.
 
-// The next frame begins, with nothing sent yet. Gives 0, or the number that it is refused with: 2
-// (the front does not decode), 16 (the front is at the day's last frame, or beyond it).
+// The next frame begins, with nothing sent yet. No frame is left out: a process that fell behind
+// makes up each one that it missed, with its hearing, `playout_front_tick` and its verbs, before it
+// goes on; one that cannot was down, and makes a new front. Gives 0, or the number that it is
+// refused with: 2 (the front does not decode), 16 (the front is at the day's last frame, or beyond
+// it).
 #[no_mangle]
 pub extern "C" fn playout_front_begin(front: &mut PlainFront) -> u32
     ensures { λ r. ⌜ Begins (now (front .entry)) r (now (front .exit)) ⌝ }
@@ -394,8 +397,10 @@ pub extern "C" fn playout_front_begin(front: &mut PlainFront) -> u32
     next.answer
 }
 
-// One heartbeat is heard in the present frame. Gives the event and the role afterwards. Refused
-// with 2 (the front does not decode, or the heartbeat's tiebreaker is 0).
+// One heartbeat is heard in the present frame. Leave out those of the server itself: they are not
+// refused, each sets a backup's silence timer as another's would, and a backup that hears one in
+// every frame never steps in. Gives the event and the role afterwards. Refused with 2 (the front
+// does not decode, or the heartbeat's tiebreaker is 0).
 #[no_mangle]
 pub extern "C" fn playout_front_hear(
     front: &mut PlainFront,
@@ -408,8 +413,11 @@ pub extern "C" fn playout_front_hear(
     next.answer
 }
 
-// The timers of the present frame, after all hearing in it. Gives their events and the role
-// afterwards. Refused with 2 (the front does not decode).
+// The timers of the present frame, after all hearing in it; in every frame. A timer goes off in the
+// one frame in which it is due, and not later: where this call is left out in that frame, a backup
+// never steps in, a primary sends no beat any more, a prospect never goes on air, until something
+// sets the timer again. Gives their events and the role afterwards. Refused with 2 (the front does
+// not decode).
 #[no_mangle]
 pub extern "C" fn playout_front_tick(front: &mut PlainFront) -> FrontTimed
     ensures { λ r. ⌜ Ticks (now (front .entry)) r (now (front .exit)) ⌝ }
