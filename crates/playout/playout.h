@@ -6,11 +6,11 @@
  *
  * A call takes plain integers, structs of them, and slices: bytes lent to it, as a pointer and a
  * length. It gives a number, and with it what it worked out (but for playout_higher, which says yes
- * or no, and playout_table_empty). Number 0: accepted. Any other says why the call was refused, and
- * then nothing was done: a lent struct and a lent slice are as they were, a table or channel comes
- * back as it was handed in, and all else in the answer is 0, roles too. Where several
- * numbers fit, 2 for a struct or an argument that means nothing comes first; then the lowest, but
- * for 9: it is given where the call would otherwise be accepted.
+ * or no, playout_table_empty, playout_rules and playout_version). Number 0: accepted. Any other
+ * says why the call was refused, and then nothing was done: a lent struct and a lent slice are as
+ * they were, a table or channel comes back as it was handed in, and all else in the answer is 0,
+ * roles too. Where several numbers fit, 2 for a struct or an argument that means nothing comes
+ * first; then the lowest, but for 9: it is given where the call would otherwise be accepted.
  *
  * Nothing is kept between calls: no globals, no memory taken, no files, no locks. Calls on
  * different structs and bytes may run in several threads at once.
@@ -37,6 +37,15 @@
 #ifdef __cplusplus
 extern "C" {
 #endif
+
+/* What a program is compiled against; playout_rules and playout_version tell what it is linked
+   with. */
+enum {
+    /* the number of the rules: servers of a group must have the same */
+    PLAYOUT_RULES = 1,
+    /* of the code: 1000 times the major, and the minor */
+    PLAYOUT_VERSION = 1000
+};
 
 /* Why a call was refused. There is no 10. */
 enum {
@@ -126,7 +135,13 @@ enum {
     PLAYOUT_LAST_FRAME = 2159999,
     /* as many bytes are enough for a heartbeat's line, for a timecode, for the lines of one event,
        and for the line of a refusal */
-    PLAYOUT_LINE_BYTES = 64
+    PLAYOUT_LINE_BYTES = 64,
+    /* heartbeats that one server sends in a frame, at most: plain beats, a reveal and a pass */
+    PLAYOUT_SENT = 17,
+    /* heartbeats that one server hears in a frame, at most: those of all others */
+    PLAYOUT_HEARD = 255,
+    /* as many bytes are enough for the lines of one frame of a whole channel that calls made */
+    PLAYOUT_FRAME_BYTES = 237600
 };
 
 /*
@@ -318,26 +333,51 @@ PLAYOUT_SIZE(playout_channel_answered, 600);
 #endif
 
 /*
+ * The number of the rules that this library plays by. Two servers of a group compare theirs before
+ * they play together, and do not where they differ: half a group on each side of a change of rules
+ * gives two sheets, and nobody notices. `PLAYOUT_RULES` is the number that a program was compiled
+ * against, this the number of the library that it is linked with; it may compare the two at its
+ * start.
+ */
+uint32_t playout_rules(void);
+
+/*
+ * The version of the library's code: 1000 times the major, which rises where a program must be
+ * changed or built again, and the minor, which rises where something is added. Servers of different
+ * versions play together where their rules have one number. `PLAYOUT_VERSION` is the version that a
+ * program was compiled against, this the one that it is linked with.
+ */
+uint32_t playout_version(void);
+
+/*
  * The front of an idle server at frame 0, of this identity, priority and period in frames. Refused
  * with 2 (identity 0, or a period that is not 2 to 250).
  */
 playout_front_made playout_front_new(uint16_t identity, uint8_t priority, uint32_t period);
 
 /*
- * The next frame begins, with nothing sent yet. Gives 0, or the number that it is refused with: 2
- * (the front does not decode), 16 (the front is at the day's last frame, or beyond it).
+ * The next frame begins, with nothing sent yet. No frame is left out: a process that fell behind
+ * makes up each one that it missed, with its hearing, `playout_front_tick` and its verbs, before it
+ * goes on; one that cannot was down, and makes a new front. Gives 0, or the number that it is
+ * refused with: 2 (the front does not decode), 16 (the front is at the day's last frame, or beyond
+ * it).
  */
 uint32_t playout_front_begin(playout_front *front);
 
 /*
- * One heartbeat is heard in the present frame. Gives the event and the role afterwards. Refused
- * with 2 (the front does not decode, or the heartbeat's tiebreaker is 0).
+ * One heartbeat is heard in the present frame. Leave out those of the server itself: they are not
+ * refused, each sets a backup's silence timer as another's would, and a backup that hears one in
+ * every frame never steps in. Gives the event and the role afterwards. Refused with 2 (the front
+ * does not decode, or the heartbeat's tiebreaker is 0).
  */
 playout_heard playout_front_hear(playout_front *front, playout_heartbeat heartbeat);
 
 /*
- * The timers of the present frame, after all hearing in it. Gives their events and the role
- * afterwards. Refused with 2 (the front does not decode).
+ * The timers of the present frame, after all hearing in it; in every frame. A timer goes off in the
+ * one frame in which it is due, and not later: where this call is left out in that frame, a backup
+ * never steps in, a primary sends no beat any more, a prospect never goes on air, until something
+ * sets the timer again. Gives their events and the role afterwards. Refused with 2 (the front does
+ * not decode).
  */
 playout_timed playout_front_tick(playout_front *front);
 

@@ -3,8 +3,13 @@
  *
  *     server IDENTITY PRIORITY PERIOD
  *
- * It reads lines from standard input:
+ * At its start it prints the number of the rules that it plays by, `rules TAB NUMBER`, and an empty
+ * line. Then it reads lines from standard input:
  *
+ *     rules TAB NUMBER  the number of another server, before the first tick or entry. If it is this
+ *                       server's, the answer is an empty line; else the two cannot play together,
+ *                       and the program ends with status 1. A server that plays already goes on,
+ *                       and tells it on standard error: the one that joins must stay out
  *     a heartbeat       to be heard in the coming frame. Senders may come in any order; those of
  *                       one sender come in the order sent
  *     tick              the next frame: it begins, what came is heard, the timers run
@@ -19,7 +24,7 @@
  * and has no answer.
  *
  * In a product the lines that come in are datagrams, the lines with four fields are sent to all
- * others, and tick is the clock of the frame.
+ * others, one datagram a frame, and tick is the clock of the frame.
  */
 #include "playout.h"
 
@@ -31,13 +36,10 @@
 /* A line has at most 64 bytes and its line feed. One byte more tells that it is too long. */
 enum { LINE_ROOM = 66 };
 
-/* 15 others, each with at most 15 plain beats, a reveal and a pass in a frame. */
-enum { INBOX_ROOM = 15 * 17 };
-
 /* What is to be heard in the coming frame, from the highest sender to the lowest. */
 typedef struct {
     size_t count;
-    playout_heartbeat heartbeats[INBOX_ROOM];
+    playout_heartbeat heartbeats[PLAYOUT_HEARD];
 } inbox;
 
 /* Ends the program where the library refuses what this program never gets wrong. */
@@ -192,6 +194,28 @@ static long passed_to(const uint8_t *line, size_t length)
     return read_number(line + 5, length - 6, 65535);
 }
 
+static int is_rules(const uint8_t *line, size_t length)
+{
+    return length > 6 && memcmp(line, "rules\t", 6) == 0 && line[length - 1] == '\n';
+}
+
+/* The rules of another server. Two servers whose numbers differ must not play together: this one
+   ends, unless it plays already. */
+static void take_rules(const playout_front *front, const uint8_t *line, size_t length)
+{
+    char own[LINE_ROOM];
+
+    snprintf(own, sizeof own, "rules\t%" PRIu32 "\n", playout_rules());
+    if (is(line, length, own))
+        return;
+    fprintf(stderr,
+        "server: another server plays by rules %.*s, this one by rules %" PRIu32
+        ": build both with libraries of one number\n",
+        (int)(length - 7), (const char *)line + 6, playout_rules());
+    if (front->frame == 0 && front->server.role == PLAYOUT_ROLE_IDLE)
+        exit(1);
+}
+
 /* A heartbeat for the coming frame. A bad one is left out, and so is one that comes back to its
    sender, as it does where all listen to one address. */
 static void take_heartbeat(const playout_front *front, inbox *in, const uint8_t *line,
@@ -204,7 +228,7 @@ static void take_heartbeat(const playout_front *front, inbox *in, const uint8_t 
             at, read.number);
     else if (read.heartbeat.tiebreaker == front->server.identity)
         fprintf(stderr, "server: line %lu is a heartbeat of this server itself\n", at);
-    else if (in->count == INBOX_ROOM)
+    else if (in->count == PLAYOUT_HEARD)
         fprintf(stderr, "server: line %lu is one heartbeat too many for a frame\n", at);
     else
         keep(in, read.heartbeat);
@@ -225,6 +249,11 @@ static void take_line(playout_front *front, inbox *in, const uint8_t *line, size
 {
     long to = passed_to(line, length);
 
+    if (is_rules(line, length)) {
+        take_rules(front, line, length);
+        end_answer();
+        return;
+    }
     if (is(line, length, "tick\n")) {
         tick(front, in);
         end_answer();
@@ -247,6 +276,16 @@ static void take_line(playout_front *front, inbox *in, const uint8_t *line, size
 
 /* ---- the loop */
 
+/* Whether the library that is linked is one that this program was compiled for: the same rules and
+   the same major version, and no lower minor. */
+static int is_linked_well(void)
+{
+    uint32_t version = playout_version();
+
+    return playout_rules() == PLAYOUT_RULES && version / 1000 == PLAYOUT_VERSION / 1000 &&
+        version >= PLAYOUT_VERSION;
+}
+
 static long read_argument(const char *word, long most)
 {
     return read_number((const uint8_t *)word, strlen(word), most);
@@ -262,6 +301,13 @@ int main(int argc, char **argv)
         fprintf(stderr, "usage: server IDENTITY PRIORITY PERIOD\n");
         return 2;
     }
+    if (!is_linked_well()) {
+        fprintf(stderr,
+            "server: compiled for rules %d, version %d, linked with rules %" PRIu32
+            ", version %" PRIu32 ": compile it again\n",
+            PLAYOUT_RULES, PLAYOUT_VERSION, playout_rules(), playout_version());
+        return 1;
+    }
     playout_front_made made =
         playout_front_new((uint16_t)identity, (uint8_t)priority, (uint32_t)period);
     if (made.number != PLAYOUT_ACCEPTED) {
@@ -276,6 +322,8 @@ int main(int argc, char **argv)
     size_t length;
     unsigned long at = 0;
 
+    printf("rules\t%" PRIu32 "\n", playout_rules());
+    end_answer();
     while ((length = read_line(line)) > 0)
         take_line(&front, &in, line, length, ++at);
     return 0;

@@ -1,3 +1,4 @@
+pub mod Rules
 pub mod Front
 pub mod Writing
 pub mod Channel

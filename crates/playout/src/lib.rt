@@ -36,6 +36,7 @@ ghost use Rattle.day.specs.Sheet.{sheet};
 ghost use Rattle.settling.specs.Sending.{sends};
 ghost use Rattle.plain.specs.Numbers.{isVerb, verbOf, isEvent, isRefusal, refusalOf};
 ghost use Rattle.plain.specs.Plain.{isFront, isHeartbeat, heartbeatOf, isChannel, channelOf, noChannel};
+ghost use Rattle.playout.specs.Rules.{rulesNumber, versionNumber};
 ghost use Rattle.playout.specs.Front.{ill, frontMade, Begins, Hears, Ticks, Acts, sendingOf, isSent, frontSends};
 ghost use Rattle.playout.specs.Writing.{writtenOf, Puts, PutsIf, frontLines, heartbeatRead, timecodeRead, plainHigher};
 ghost use Rattle.playout.specs.Channel.{Adds, Opens, Answers};
@@ -162,6 +163,37 @@ struct AfterVerb {
 
 // The number of what does not decode.
 const ILL: u32 = 2;
+
+// ---- what it is
+
+// The rules, as one number.
+pub const RULES: u32 = 1;
+
+// The version of the code.
+pub const VERSION: u32 = 1000;
+
+// The number of the rules that this library plays by. Two servers of a group compare theirs before
+// they play together, and do not where they differ: half a group on each side of a change of rules
+// gives two sheets, and nobody notices. `PLAYOUT_RULES` is the number that a program was compiled
+// against, this the number of the library that it is linked with; it may compare the two at its
+// start.
+#[no_mangle]
+pub extern "C" fn playout_rules() -> u32
+    ensures { λ r. ⌜ r ≡ rulesNumber ⌝ }
+{
+    RULES
+}
+
+// The version of the library's code: 1000 times the major, which rises where a program must be
+// changed or built again, and the minor, which rises where something is added. Servers of different
+// versions play together where their rules have one number. `PLAYOUT_VERSION` is the version that a
+// program was compiled against, this the one that it is linked with.
+#[no_mangle]
+pub extern "C" fn playout_version() -> u32
+    ensures { λ r. ⌜ r ≡ versionNumber ⌝ }
+{
+    VERSION
+}
 
 // ---- a front made
 
@@ -351,8 +383,11 @@ fn acted(front: PlainFront, verb: u32, to: u16) -> AfterVerb
 // ---- the steps of a front, in place. A frame is `begin`, a `hear` for each heartbeat heard in it,
 // `tick`, and then verbs.
 
-// The next frame begins, with nothing sent yet. Gives 0, or the number that it is refused with: 2
-// (the front does not decode), 16 (the front is at the day's last frame, or beyond it).
+// The next frame begins, with nothing sent yet. No frame is left out: a process that fell behind
+// makes up each one that it missed, with its hearing, `playout_front_tick` and its verbs, before it
+// goes on; one that cannot was down, and makes a new front. Gives 0, or the number that it is
+// refused with: 2 (the front does not decode), 16 (the front is at the day's last frame, or beyond
+// it).
 #[no_mangle]
 pub extern "C" fn playout_front_begin(front: &mut PlainFront) -> u32
     ensures { λ r. ⌜ Begins (now (front .entry)) r (now (front .exit)) ⌝ }
@@ -362,8 +397,10 @@ pub extern "C" fn playout_front_begin(front: &mut PlainFront) -> u32
     next.answer
 }
 
-// One heartbeat is heard in the present frame. Gives the event and the role afterwards. Refused
-// with 2 (the front does not decode, or the heartbeat's tiebreaker is 0).
+// One heartbeat is heard in the present frame. Leave out those of the server itself: they are not
+// refused, each sets a backup's silence timer as another's would, and a backup that hears one in
+// every frame never steps in. Gives the event and the role afterwards. Refused with 2 (the front
+// does not decode, or the heartbeat's tiebreaker is 0).
 #[no_mangle]
 pub extern "C" fn playout_front_hear(
     front: &mut PlainFront,
@@ -376,8 +413,11 @@ pub extern "C" fn playout_front_hear(
     next.answer
 }
 
-// The timers of the present frame, after all hearing in it. Gives their events and the role
-// afterwards. Refused with 2 (the front does not decode).
+// The timers of the present frame, after all hearing in it; in every frame. A timer goes off in the
+// one frame in which it is due, and not later: where this call is left out in that frame, a backup
+// never steps in, a primary sends no beat any more, a prospect never goes on air, until something
+// sets the timer again. Gives their events and the role afterwards. Refused with 2 (the front does
+// not decode).
 #[no_mangle]
 pub extern "C" fn playout_front_tick(front: &mut PlainFront) -> FrontTimed
     ensures { λ r. ⌜ Ticks (now (front .entry)) r (now (front .exit)) ⌝ }

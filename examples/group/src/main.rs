@@ -1,7 +1,8 @@
 //! A day played by a group of processes, one for each server: `group DAY PROGRAM..`. The servers are
 //! started from the programs in turn, by rising identity; examples/c/server.c says what such a
-//! program reads and answers. The group keeps the clock and the links, passes heartbeats on, and
-//! prints the whole sheet of the day.
+//! program reads and answers. Before frame 0 the group hands the number of each server's rules to
+//! all others, and plays nothing where one of them ends at it. Then it keeps the clock and the
+//! links, passes heartbeats on, and prints the whole sheet of the day.
 
 mod day;
 mod member;
@@ -29,6 +30,7 @@ impl<W: Write> Group<W> {
         for (&(identity, priority), program) in day.servers.iter().zip(programs.iter().cycle()) {
             members.push(Member::start(program, identity, priority, day.period)?);
         }
+        compare(&mut members)?;
         let count = members.len();
         Ok(Group { frame: 0, members, cut: vec![vec![false; count]; count], out })
     }
@@ -144,12 +146,27 @@ impl<W: Write> Group<W> {
     }
 }
 
+/// Each server's rules, told to all others: an error where one of them does not play by them.
+fn compare(members: &mut [Member]) -> Result<(), String> {
+    let rules: Vec<Vec<u8>> = members.iter_mut().map(Member::rules).collect::<Result<_, _>>()?;
+    let names: Vec<String> = members.iter().map(Member::name).collect();
+    for (place, member) in members.iter_mut().enumerate() {
+        for other in (0..rules.len()).filter(|&other| other != place) {
+            if !member.plays_by(&rules[other]) {
+                return Err(format!("{} does not play with {}", names[place], names[other]));
+            }
+        }
+    }
+    Ok(())
+}
+
 fn play(path: &str, programs: &[String]) -> Result<(), String> {
     let bytes = std::fs::read(path).map_err(|error| format!("{path} cannot be read: {error}"))?;
     let day = day::read(&bytes).map_err(|(line, number)| {
         format!("{path} is not played: line {line} would end its sheet with refused-{number}")
     })?;
-    let mut group = Group::start(&day, programs, BufWriter::new(io::stdout().lock()))?;
+    let mut group = Group::start(&day, programs, BufWriter::new(io::stdout().lock()))
+        .map_err(|what| format!("{path} is not played: {what}"))?;
     group.run(&day)?;
     group.members.into_iter().try_for_each(Member::end)
 }

@@ -1,7 +1,12 @@
 //! One playout server of a channel, as a loop over the library: `server IDENTITY PRIORITY PERIOD`.
 //!
-//! It reads lines from standard input:
+//! At its start it prints the number of the rules that it plays by, `rules` and a number, and an
+//! empty line. Then it reads lines from standard input:
 //!
+//! - `rules` and a number, that of another server, before the first tick or entry. If it is this
+//!   server's, the answer is an empty line; else the two cannot play together, and the program ends
+//!   with status 1. A server that plays already goes on, and tells it on standard error: the one
+//!   that joins must stay out;
 //! - a heartbeat, to be heard in the coming frame. Senders may come in any order; those of one
 //!   sender come in the order sent;
 //! - `tick`, the next frame: it begins, what came is heard, the timers run;
@@ -17,12 +22,9 @@
 #[allow(dead_code)]
 mod playout;
 
-use playout::{Front, Heartbeat, Written, ACCEPTED, LINE_BYTES, TIME_PAST};
+use playout::{Front, Heartbeat, Written, ACCEPTED, HEARD, LINE_BYTES, ROLE_IDLE, TIME_PAST};
 use std::io::{self, BufRead, BufWriter, Read, Write};
 use std::process::ExitCode;
-
-/// 15 others, each with at most 15 plain beats, a reveal and a pass in a frame.
-const INBOX_ROOM: usize = 15 * 17;
 
 /// All that is kept between frames, and where answers go.
 struct Server<W: Write> {
@@ -34,6 +36,8 @@ struct Server<W: Write> {
 
 /// What a line asks for.
 enum Asked {
+    /// The number of another server, as it was told.
+    Rules(String),
     Tick,
     Verb(u32, u16),
     Heartbeat(Heartbeat),
@@ -119,6 +123,24 @@ impl<W: Write> Server<W> {
         }
     }
 
+    /// Two servers whose rules differ must not play together: this one ends, unless it plays
+    /// already.
+    fn compare(&self, theirs: &str) -> io::Result<()> {
+        let own = playout::rules().to_string();
+        if theirs == own {
+            return Ok(());
+        }
+        let differ = format!(
+            "another server plays by rules {theirs}, this one by rules {own}: \
+             build both with libraries of one number"
+        );
+        if self.front.frame == 0 && self.front.server.role == ROLE_IDLE {
+            return Err(io::Error::other(differ));
+        }
+        eprintln!("server: {differ}");
+        Ok(())
+    }
+
     // What it reads
 
     fn take(&mut self, asked: Asked) -> io::Result<()> {
@@ -127,6 +149,7 @@ impl<W: Write> Server<W> {
                 self.keep(heartbeat);
                 return Ok(());
             }
+            Asked::Rules(theirs) => self.compare(&theirs)?,
             Asked::Tick => self.tick()?,
             Asked::Verb(verb, to) => self.act(verb, to)?,
         }
@@ -145,6 +168,11 @@ impl<W: Write> Server<W> {
             b"restart\n" => return Ok(Asked::Verb(playout::VERB_RESTART, 0)),
             _ => {}
         }
+        if let Some(theirs) =
+            line.strip_prefix(b"rules\t").and_then(|rest| rest.strip_suffix(b"\n"))
+        {
+            return Ok(Asked::Rules(String::from_utf8_lossy(theirs).into_owned()));
+        }
         if let Some(to) = passed_to(line) {
             return Ok(Asked::Verb(playout::VERB_PASS, to));
         }
@@ -156,7 +184,7 @@ impl<W: Write> Server<W> {
         if read.heartbeat.tiebreaker == self.front.server.identity {
             return Err("a heartbeat of this server itself".to_string());
         }
-        if self.inbox.len() == INBOX_ROOM {
+        if self.inbox.len() == HEARD {
             return Err("one heartbeat too many for a frame".to_string());
         }
         Ok(Asked::Heartbeat(read.heartbeat))
@@ -200,6 +228,8 @@ fn run(front: Front) -> io::Result<()> {
     let out = BufWriter::new(io::stdout().lock());
     let mut server = Server { front, inbox: Vec::new(), out };
     let mut line = Vec::new();
+    write!(server.out, "rules\t{}\n\n", playout::rules())?;
+    server.out.flush()?;
     for at in 1_u64.. {
         read_line(&mut input, &mut line)?;
         if line.is_empty() {
@@ -226,6 +256,16 @@ fn main() -> ExitCode {
         eprintln!("usage: server IDENTITY PRIORITY PERIOD");
         return ExitCode::from(2);
     };
+    if !playout::is_linked_well() {
+        let (rules, version) = (playout::rules(), playout::version());
+        eprintln!(
+            "server: compiled for rules {}, version {}, linked with rules {rules}, version \
+             {version}: compile it again",
+            playout::RULES,
+            playout::VERSION
+        );
+        return ExitCode::FAILURE;
+    }
     let made = Front::make(identity, priority, period);
     if made.number != ACCEPTED {
         eprintln!("server: these numbers are refused with {}", made.number);

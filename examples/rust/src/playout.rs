@@ -4,10 +4,15 @@
 
 use std::mem::size_of;
 
-/// Numbers of the header: refusals, verbs, limits.
+/// What this file is written for; `rules` and `version` say what is linked.
+pub const RULES: u32 = 1;
+pub const VERSION: u32 = 1000;
+
+/// Numbers of the header: refusals, roles, verbs, limits.
 pub const ACCEPTED: u32 = 0;
 /// The first of those from the state, which have a line of the sheet.
 pub const TIME_PAST: u32 = 11;
+pub const ROLE_IDLE: u8 = 1;
 pub const VERB_START: u32 = 0;
 pub const VERB_READY: u32 = 1;
 pub const VERB_UNREADY: u32 = 2;
@@ -15,6 +20,8 @@ pub const VERB_PASS: u32 = 3;
 pub const VERB_CRASH: u32 = 4;
 pub const VERB_RESTART: u32 = 5;
 pub const LINE_BYTES: usize = 64;
+/// Heartbeats that one server hears in a frame, at most.
+pub const HEARD: usize = 255;
 
 #[repr(C)]
 #[derive(Clone, Copy, Debug, PartialEq, Eq)]
@@ -127,6 +134,8 @@ mod c {
 
     // a slice is a pointer and a length
     extern "C" {
+        pub fn playout_rules() -> u32;
+        pub fn playout_version() -> u32;
         pub fn playout_front_new(identity: u16, priority: u8, period: u32) -> FrontMade;
         pub fn playout_front_begin(front: *mut Front) -> u32;
         pub fn playout_front_hear(front: *mut Front, heartbeat: Heartbeat) -> Heard;
@@ -159,6 +168,22 @@ mod c {
 
 // SAFETY, of every call below: a reference is a valid pointer and a slice a valid pointer and
 // length, none overlaps another, and the library asks for no more.
+
+/// The number of the rules that the library plays by: servers of a group must have the same.
+pub fn rules() -> u32 {
+    unsafe { c::playout_rules() }
+}
+
+/// The version of the library's code, major × 1000 + minor.
+pub fn version() -> u32 {
+    unsafe { c::playout_version() }
+}
+
+/// Whether the library that is linked is one that this file is written for: the same rules and the
+/// same major version, and no lower minor.
+pub fn is_linked_well() -> bool {
+    rules() == RULES && version() / 1000 == VERSION / 1000 && version() >= VERSION
+}
 
 impl Front {
     pub fn make(identity: u16, priority: u8, period: u32) -> FrontMade {
