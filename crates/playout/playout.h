@@ -333,11 +333,11 @@ PLAYOUT_SIZE(playout_channel_answered, 600);
 #endif
 
 /*
- * The number of the rules that this library plays by. Two servers of a group compare theirs before
- * they play together, and do not where they differ: half a group on each side of a change of rules
- * gives two sheets, and nobody notices. `PLAYOUT_RULES` is the number that a program was compiled
- * against, this the number of the library that it is linked with; it may compare the two at its
- * start.
+ * The number of the rules that this library plays by: 1 for document 01, one more with every change
+ * of the rules that a sheet can show. Two servers of a group compare theirs before they play
+ * together, and do not where they differ: half a group on each side of a change of rules gives two
+ * sheets, and nobody notices. `PLAYOUT_RULES` is the number that a program was compiled against,
+ * this the number of the library that it is linked with; it may compare the two at its start.
  */
 uint32_t playout_rules(void);
 

@@ -1,4 +1,4 @@
-pub mod Rules
+pub mod Version
 pub mod Front
 pub mod Writing
 pub mod Channel

@@ -36,7 +36,8 @@ ghost use Rattle.day.specs.Sheet.{sheet};
 ghost use Rattle.settling.specs.Sending.{sends};
 ghost use Rattle.plain.specs.Numbers.{isVerb, verbOf, isEvent, isRefusal, refusalOf};
 ghost use Rattle.plain.specs.Plain.{isFront, isHeartbeat, heartbeatOf, isChannel, channelOf, noChannel};
-ghost use Rattle.playout.specs.Rules.{rulesNumber, versionNumber};
+ghost use Rattle.wiring.specs.Rules.{Rules};
+ghost use Rattle.playout.specs.Version.{versionNumber};
 ghost use Rattle.playout.specs.Front.{ill, frontMade, Begins, Hears, Ticks, Acts, sendingOf, isSent, frontSends};
 ghost use Rattle.playout.specs.Writing.{writtenOf, Puts, PutsIf, frontLines, heartbeatRead, timecodeRead, plainHigher};
 ghost use Rattle.playout.specs.Channel.{Adds, Opens, Answers};
@@ -166,22 +167,20 @@ const ILL: u32 = 2;
 
 // ---- what it is
 
-// The rules, as one number.
-pub const RULES: u32 = 1;
-
 // The version of the code.
 pub const VERSION: u32 = 1000;
 
-// The number of the rules that this library plays by. Two servers of a group compare theirs before
-// they play together, and do not where they differ: half a group on each side of a change of rules
-// gives two sheets, and nobody notices. `PLAYOUT_RULES` is the number that a program was compiled
+// The number of the rules that this library plays by: 1 for document 01, one more with every change
+// of the rules that a sheet can show. Two servers of a group compare theirs before they play
+// together, and do not where they differ: half a group on each side of a change of rules gives two
+// sheets, and nobody notices. `PLAYOUT_RULES` is the number that a program was compiled
 // against, this the number of the library that it is linked with; it may compare the two at its
 // start.
 #[no_mangle]
 pub extern "C" fn playout_rules() -> u32
-    ensures { λ r. ⌜ r ≡ rulesNumber ⌝ }
+    ensures { λ r. ⌜ Rules r ⌝ }
 {
-    RULES
+    wiring::rules()
 }
 
 // The version of the library's code: 1000 times the major, which rises where a program must be

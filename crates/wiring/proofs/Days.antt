@@ -33,7 +33,7 @@ use Rattle.wiring.specs.Heard.{Group, Seated, Heard}
 use Rattle.wiring.specs.Group as group
 use Rattle.wiring.specs.Group.{newGroup, framed, linesEach, knows, moved}
 use Rattle.wiring.specs.Same.{groupOf, callOf}
-use Rattle.wiring.specs.Days.{Plays, stays, plays, stopsIn, stopsBeyond, lineStops, entryPrints, closed, Prints, over, stops, early, enters, endsEarly, ends, isEntry, AddsAll, none, next, DayOf, OneSheetOfADay}
+use Rattle.wiring.specs.Days.{Plays, stays, plays, stopsIn, stopsBeyond, lineStops, entryPrints, closed, Prints, over, faults, stops, early, enters, endsEarly, ends, isEntry, AddsAll, none, next, DayOf, OneSheetOfADay}
 use Rattle.wiring.proofs.Frames.{framed-is, frame-lines}
 use Rattle.wiring.proofs.Entries.{knows-is, entry-number, entry-lines}
 use Rattle.wiring.proofs.Moves.{moved-is, exact, new-group}
@@ -176,6 +176,10 @@ closes k c (l ∷ ls) =
 pub prints : (k : ℕ) (g : Group) (ls : List (List ℕ)) (w : List ℕ) (c : State) → Sound c → g ≡ groupOf c → Prints k g ls w → w ≡ sheetFrom k (day.on atEntries c) ls
 unfolding sheetFrom
 prints k g ls w c sound e over = refl
+prints k g ls w c sound e (faults {n = n} {l = l} {ls = ls′} r) =
+    let d = day.on atEntries c in
+    let fault : effectOf k d (wrong n) ≡ stop n = on (tested (leb k lastLine)) (effect-early k d (wrong n)) (effect-late k d (wrong n)) in
+    sym (sheet-stop k n d l ls′ (ap (effectOf k d) r ∙ fault))
 prints k g ls w c sound e (stops {n = n} {l = l} {ls = ls′} s) =
     sym (sheet-stop k (suc n) (day.on atEntries c) l ls′ (line-stops k c (lineRead l) n (ap (λ (x : Group). lineStops k x (lineRead l)) (sym e) ∙ s)))
 prints k g ls w c sound e (early {t = t} {a = a} {b = b} {v = v} {l = l} {w = u} {ls = ls′} r s f more) =

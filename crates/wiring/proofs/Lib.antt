@@ -9,3 +9,4 @@ pub mod Few
 pub mod Settles
 pub mod Adding
 pub mod Days
+pub mod Playing

@@ -65,6 +65,7 @@ closed k (l ∷ ls) = inputRefusal k (stopsBeyond (lineRead l))
 pub data Prints : ℕ → Group → List (List ℕ) → List ℕ → Type 0 where
   -- "input ended without `end`"
   over : {k : ℕ} {g : Group} → Prints k g [] (inputRefusal k 4)
+  faults : {k n : ℕ} {g : Group} {l : List ℕ} {ls : List (List ℕ)} → lineRead l ≡ wrong n → Prints k g (l ∷ ls) (inputRefusal k n)
   stops : {k n : ℕ} {g : Group} {l : List ℕ} {ls : List (List ℕ)} → lineStops k g (lineRead l) ≡ suc n → Prints k g (l ∷ ls) (inputRefusal k (suc n))
   -- "11. Time before the present frame.", by whoever keeps the clock
   early :
@@ -118,3 +119,11 @@ abbrev pub OneSheetOfADay : Type 0
 OneSheetOfADay =
     (s : List ℕ) (t : Table) (n k : ℕ) (rest : List (List ℕ)) (w : List ℕ) → DayOf s t n k rest → Prints k (newGroup t n) rest w →
     sheet s ≡ header ++ w
+
+-- and a group can print something for every day
+pub record CanPrint (k : ℕ) (g : Group) (rest : List (List ℕ)) : Type 0 where
+  pub printed : List ℕ
+  pub prints : Prints k g rest printed
+
+abbrev pub DaysCanBePlayed : Type 0
+DaysCanBePlayed = (s : List ℕ) (t : Table) (n k : ℕ) (rest : List (List ℕ)) → DayOf s t n k rest → CanPrint k (newGroup t n) rest

@@ -3,7 +3,7 @@ use mathlib.Core.Path.{_≡_}
 use Prim.Native.Nat.{ℕ}
 use Rattle.wiring.specs.Same.{OneSheet, ProtocolCanBeMet, SortedIsHeard, mostHeard, FewAreHeard}
 use Rattle.wiring.specs.Settles.{GroupsSettle}
-use Rattle.wiring.specs.Days.{OneSheetOfADay}
+use Rattle.wiring.specs.Days.{OneSheetOfADay, DaysCanBePlayed}
 
 -- 1 for the rules of document 01; one more with every change of the rules that a sheet can show
 abbrev pub rulesNumber : ℕ
@@ -14,6 +14,7 @@ pub record Rules (r : ℕ) : Type 0 where
   -- (the paper's reason) "one sheet, whoever builds the server"
   pub sheets : OneSheet
   pub days : OneSheetOfADay
+  pub played : DaysCanBePlayed
   pub met : ProtocolCanBeMet
   pub sorted : SortedIsHeard
   pub settles : GroupsSettle

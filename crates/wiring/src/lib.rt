@@ -1,5 +1,7 @@
 // A group of playout servers wired by the protocol of docs/MAKERS.md is the channel, byte for byte.
 // The theorem stands in the contract of the number of the rules.
+use group::Table;
+use server::Server;
 ghost use Rattle.wiring.specs.Rules.{Rules, MostHeard};
 
 // 1 for the rules of document 01. It rises by 1 with every change of the rules that a sheet can
@@ -14,11 +16,14 @@ pub fn rules() -> u32
     RULES
 }
 
-// The most heartbeats that come to a server in one frame: 15 others, each with at most 15 plain
-// beats, a reveal and a pass.
-pub const HEARD: u32 = 15 * 17;
+// The most heartbeats that a server sends in one frame: its plain beats, a reveal and a pass.
+pub const SENT: usize = Server::BEATS as usize + 2;
 
-pub fn most_heard() -> u32
+// The most that come to a server in one frame: those of all others.
+pub const HEARD: usize = (Table::SERVERS - 1) * (Server::BEATS as usize + 2);
+
+// The most heartbeats that come to a server in one frame.
+pub fn most_heard() -> usize
     ensures { λ r. ⌜ MostHeard r ⌝ }
 {
     HEARD

@@ -1,3 +1,4 @@
+use borrow.Author.Needs.{needs}
 use Rattle.plainwiring.proofs.rules.Statement.{statement}
 use Rattle.plainwiring.proofs.rules.Tie as tie
 use Rattle.plainwiring.proofs.Group.{plain-groups-play}
@@ -8,4 +9,4 @@ returns : tie.Need-returns
 returns c = record { number = c .playout-rules .ensures .number; groups = plain-groups-play; sorted = plain-sort-is-the-sort }
 
 pub rules-spec : {M : Type 1} → statement M
-rules-spec = tie.close (tie.spec returns)
+rules-spec = tie.close (tie.spec (λ c. search needs) returns)
