@@ -29,11 +29,11 @@ use Rattle.day.specs.Sheet.{header, inputRefusal, sheetFrom, sheet}
 use Rattle.reached.proofs.Sound.{Sound, sound-advanced}
 use Rattle.reached.proofs.Made.{sound-fresh}
 use Rattle.reached.proofs.Reached.{sound-by, sound-call}
-use Rattle.wiring.specs.Heard.{Group, Seated, Heard}
+use Rattle.wiring.specs.Heard.{Group, Heard}
 use Rattle.wiring.specs.Group as group
-use Rattle.wiring.specs.Group.{newGroup, framed, linesEach, knows, moved}
+use Rattle.wiring.specs.Group.{newGroup, framed, linesEach, knows, moved, MustHear}
 use Rattle.wiring.specs.Same.{groupOf, callOf}
-use Rattle.wiring.specs.Days.{Plays, stays, plays, stopsIn, stopsBeyond, lineStops, entryPrints, closed, Prints, over, faults, stops, early, enters, endsEarly, ends, isEntry, AddsAll, none, next, DayOf, OneSheetOfADay}
+use Rattle.wiring.specs.Days.{Plays, stays, plays, stopsIn, stopsBeyond, lineStops, entryPrints, closed, Prints, unended, faults, stops, early, enters, endsEarly, ends, isEntry, AddsAll, none, next, DayOf, OneSheetOfADay}
 use Rattle.wiring.proofs.Frames.{framed-is, frame-lines}
 use Rattle.wiring.proofs.Entries.{knows-is, entry-number, entry-lines}
 use Rattle.wiring.proofs.Moves.{moved-is, exact, new-group}
@@ -45,7 +45,7 @@ played : (n : ℕ) (g d : Group) (w : List ℕ) (c : State) → Sound c → g �
 unfolding advancedBy linesBy
 played zero g d w c sound e stays = (e, refl)
 played (suc n) g d w c sound e (plays {w = u} hear right more) =
-    let rightly = subst (λ (x : Group). (j : ℕ) → Seated x j → Heard x j (hear j)) e right in
+    let rightly = subst (λ (x : Group). (j : ℕ) → MustHear x j → Heard x j (hear j)) e right in
     let r = played n (framed hear g) d u (advanced c) (sound-advanced c sound) (ap (framed hear) e ∙ framed-is c sound hear rightly) more in
     (r .0, ap₂ (λ (x y : List ℕ). x ++ y) (ap (λ (x : Group). linesEach hear 0 (x .members)) e ∙ frame-lines c sound hear rightly) (r .1))
 
@@ -175,7 +175,7 @@ closes k c (l ∷ ls) =
 
 pub prints : (k : ℕ) (g : Group) (ls : List (List ℕ)) (w : List ℕ) (c : State) → Sound c → g ≡ groupOf c → Prints k g ls w → w ≡ sheetFrom k (day.on atEntries c) ls
 unfolding sheetFrom
-prints k g ls w c sound e over = refl
+prints k g ls w c sound e unended = refl
 prints k g ls w c sound e (faults {n = n} {l = l} {ls = ls′} r) =
     let d = day.on atEntries c in
     let fault : effectOf k d (wrong n) ≡ stop n = on (tested (leb k lastLine)) (effect-early k d (wrong n)) (effect-late k d (wrong n)) in

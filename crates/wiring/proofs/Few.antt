@@ -33,10 +33,11 @@ use Rattle.reached.proofs.Sound.{Sound, hears-apart}
 use Rattle.reached.proofs.Made.{sound-fresh}
 use Rattle.reached.proofs.Reached.{handed, sound-after}
 use Rattle.reached.proofs.Few.{few-senders}
-use Rattle.wiring.specs.Heard.{Group, Comes, keep, sorted}
+use Rattle.wiring.specs.Members.{Member}
+use Rattle.wiring.specs.Heard.{Group, memberAt, Comes, keep, sorted}
 use Rattle.wiring.specs.Group.{newGroup, Move, groupAfter, Wired}
-use Rattle.wiring.specs.Same.{groupOf, callsOf, mostHeard, FewAreHeard}
-use Rattle.wiring.proofs.Inboxes.{heard-inbox}
+use Rattle.wiring.specs.Same.{groupOf, callsOf, mostSent, FewAreSent, mostHeard, FewAreHeard}
+use Rattle.wiring.proofs.Inboxes.{member-at, heard-inbox}
 use Rattle.wiring.proofs.Keeping.{keep-before, keep-behind, sorted-heard}
 use Rattle.wiring.proofs.Moves.{new-agrees}
 
@@ -125,7 +126,7 @@ few-calls c (k ∷ ks) h =
 
 -- ---- an inbox
 
-few-sent : (s : Server) → FewBeats s → length (sentBy s) ≤ 17
+few-sent : (s : Server) → FewBeats s → length (sentBy s) ≤ mostSent
 unfolding sentBy
 few-sent s h =
     let a : length (choose (s .reveal) (revealOf s ∷ []) []) ≤ 1 = by-choice (λ (l : List Heartbeat). length l ≤ 1) (s .reveal) (λ _. omega arith) (λ _. omega arith) in
@@ -157,6 +158,15 @@ long-sorted : (l hs : List Heartbeat) → length (sorted l hs) ≡ length l + le
 unfolding sorted
 long-sorted l [] = omega arith
 long-sorted l (h ∷ hs) = omega (arith, long-sorted (keep h l) hs, long-keep h l)
+
+pub few-are-sent : FewAreSent
+few-are-sent t n ks ok w i =
+    let c = fresh t n in
+    let d = channelAfter c (callsOf c ks) in
+    let is = ap (λ (g : Group). memberAt g i .sent) (new-agrees t n ks ok w .group) ∙ ap (λ (m : Member). m .sent) (member-at d i) in
+    subst (λ (l : List Heartbeat). length l ≤ mostSent) (sym is)
+    (by-choice (λ (m : Member). length (m .sent) ≤ mostSent) (isEmpty (place d i)) (λ _. omega arith)
+    (λ _. few-sent (place d i) (few-calls c (callsOf c ks) (few-fresh (t .servers)) i)))
 
 pub few-are-heard : FewAreHeard
 few-are-heard t n ks ok w j hs l comes =

@@ -21,27 +21,40 @@ use Rattle.group.specs.Frame.{turned, turnLines, turnsLines, advanced}
 use Rattle.roles.specs.Roles.{isActive}
 use Rattle.reached.proofs.Sound.{Sound}
 use Rattle.wiring.specs.Members.{Member, nobody, frameOf, frameLines}
-use Rattle.wiring.specs.Heard.{Group, isVacant, Seated, Heard}
-use Rattle.wiring.specs.Group.{turn, framed, linesEach}
+use Rattle.wiring.specs.Heard.{Group, isVacant, Heard}
+use Rattle.wiring.specs.Group.{turn, framed, linesEach, MustHear}
 use Rattle.wiring.specs.Same.{memberOf, groupOf}
-use Rattle.wiring.proofs.Inboxes.{identity-of, not-vacant, heard-inbox}
-use Rattle.wiring.proofs.Members.{frame-is, lines-are, quiet-lines, identity-turned}
+use Rattle.wiring.proofs.Inboxes.{member-at, identity-of, not-vacant, heard-inbox}
+use Rattle.wiring.proofs.Members.{frame-is, lines-are, quiet-lines, identity-turned, frame-rests}
 
-module _ (c : State) (sound : Sound c) (hear : ℕ → List Heartbeat) (wired : (j : ℕ) → Seated (groupOf c) j → Heard (groupOf c) j (hear j)) where
+module _ (c : State) (sound : Sound c) (hear : ℕ → List Heartbeat) (wired : (j : ℕ) → MustHear (groupOf c) j → Heard (groupOf c) j (hear j)) where
   abbrev now : ℕ
   now = c .frame + 1
 
   abbrev Turns : ℕ → Server → Type 0
   Turns i s = (turn hear i (memberOf c s) ≡ memberOf (advanced c) (turned c now i s)) × (choose (isVacant (memberOf c s)) [] (frameLines (memberOf c s) (hear i)) ≡ turnLines c now i s)
 
+  -- whatever a server hears that rests, and what it must where it does not: the frame is that of its
+  -- inbox
+  as-inbox : (i : ℕ) → i < 16 → isEmpty (place c i) ≡ false → let m = memberOf c (place c i) in (frameOf m (hear i) ≡ frameOf m (inbox c i)) × (frameLines m (hear i) ≡ frameLines m (inbox c i))
+  as-inbox i l e =
+      let s = place c i in
+      let role = ap (λ (m : Member). isActive (m .front .server .role)) (other nobody e) in
+      on (tested (isActive (s .role)))
+      (λ a.
+      let heard = wired i (record { place = l; server = not-vacant c i e }, ap (λ (m : Member). isActive (m .front .server .role)) (member-at c i) ∙ role ∙ a) in
+      let same : hear i ≡ inbox c i = heard-inbox c sound i (hear i) heard in
+      (ap (frameOf (memberOf c s)) same, ap (frameLines (memberOf c s)) same))
+      (λ a. frame-rests (memberOf c s) (hear i) (inbox c i) (role ∙ a))
+
   -- a place with a server
   seated-turns : (i : ℕ) → i < 16 → isEmpty (place c i) ≡ false → Turns i (place c i)
   seated-turns i l e =
       let s = place c i in
       let here : isVacant (memberOf c s) ≡ false = ap (λ (n : ℕ). eqb n 0) (identity-of c s) ∙ e in
-      let same : hear i ≡ inbox c i = heard-inbox c sound i (hear i) (wired i (record { place = l; server = not-vacant c i e })) in (
-        other (memberOf c s) here ∙ ap (frameOf (memberOf c s)) same ∙ frame-is c sound i l e,
-        other [] here ∙ ap (frameLines (memberOf c s)) same ∙ lines-are c sound i l e,
+      let same = as-inbox i l e in (
+        other (memberOf c s) here ∙ same .0 ∙ frame-is c sound i l e,
+        other [] here ∙ same .1 ∙ lines-are c sound i l e,
       )
 
   -- and one without

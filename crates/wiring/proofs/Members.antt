@@ -1,7 +1,7 @@
 -- A frame of one member is that of its server in the channel. Assumes nothing.
 use mathlib.Core.Bool.{Bool, true, false}
 use mathlib.Core.Path.{_≡_, refl, sym, ap, ap₂, subst, _∙_}
-use mathlib.Core.List.{List, [], _∷_, _++_}
+use mathlib.Core.List.{List, [], _∷_, _++_, append-nil}
 use Prim.Native.Nat.{ℕ, _+_, _<_}
 use borrow.Author.Tests.{eq-eqb, ne-eqb}
 use lib.Dec.{eqb}
@@ -22,6 +22,7 @@ use Rattle.roles.specs.Words.{said}
 use Rattle.server.specs.Hearing.{hears, hearsIn, attending, heard}
 use Rattle.lines.specs.Lines.{linesOf}
 use Rattle.front.specs.declared.Front.{Front}
+use Rattle.front.specs.Front as fronts
 use Rattle.group.specs.declared.State.{State}
 use Rattle.group.specs.Table.{isEmpty}
 use Rattle.group.specs.Hearing.{place, inbox}
@@ -33,7 +34,7 @@ use Rattle.reached.proofs.Heard.{rest-all}
 use Rattle.reached.proofs.Sound.{Sound}
 use Rattle.settling.specs.Sending.{sends, Appends, attentive, TimersAppend}
 use Rattle.settling.proofs.Sending.{in-order}
-use Rattle.wiring.specs.Members.{Member, nobody, behind, hearsEach, hearsLines, ticks, ticksLines, begins, frameOf, frameLines}
+use Rattle.wiring.specs.Members.{Member, nobody, behind, eventLines, hearsEach, hearsLines, ticks, ticksLines, begins, frameOf, frameLines}
 use Rattle.wiring.specs.Same.{memberOf}
 
 -- ---- what is sent depends on the rank alone
@@ -238,3 +239,51 @@ pub identity-turned : (c : State) (t i : ℕ) (x : Server) → turned c t i x .i
 unfolding turned hearing
 identity-turned c t i x =
     ap (λ (r : Rank). r .identity) (rank-ticked (c .period) t (heardAll t (cleared x) (inbox c i)) ∙ rank-heard t (cleared x) (inbox c i))
+
+-- ---- a member whose role hears nothing
+
+quiet-attending : (t : ℕ) (r : Role) (x : Server) → isActive r ≡ false → attending t r x ≡ x
+unfolding isActive
+quiet-attending t Down x a = refl
+quiet-attending t Idle x a = refl
+quiet-attending t Sync x a = refl
+quiet-attending t Backup x a = absurd (clash refl a)
+quiet-attending t Prospect x a = absurd (clash refl a)
+quiet-attending t Primary x a = absurd (clash refl a)
+
+abbrev Rests : Front → Type 0
+Rests f = isActive (f .server .role) ≡ false
+
+rests-one : (f : Front) (h : Heartbeat) → Rests f → (fronts.hearing f h .front ≡ f) × (fronts.hearing f h .answer .event ≡ Nothing)
+unfolding after
+rests-one f h a =
+    let s = f .server in
+    let e = quiet-hears (s .role) s h a in (
+      ap₂ (λ (x : Server) (y : Event). fronts.withServer (after (f .frame) x y) f) (quiet-attending (f .frame) (s .role) s a) e,
+      e,
+    )
+
+rests-each : (m : Member) (hs : List Heartbeat) → Rests (m .front) → hearsEach m hs ≡ m
+unfolding hearsEach
+rests-each m [] a = refl
+rests-each m (h ∷ hs) a =
+    let r = rests-one (m .front) h a in
+    let same : behind m (fronts.hearing (m .front) h .front) (fronts.hearing (m .front) h .answer .event) ≡ m =
+    ap₂ (behind m) (r .0) (r .1) ∙ ap (λ (x : List Heartbeat). record { front = m .front; sent = x }) (append-nil (m .sent)) in
+    ap (λ (x : Member). hearsEach x hs) same ∙ rests-each m hs a
+
+rests-lines : (f : Front) (hs : List Heartbeat) → Rests f → hearsLines f hs ≡ []
+unfolding hearsLines linesOf
+rests-lines f [] a = refl
+rests-lines f (h ∷ hs) a =
+    let r = rests-one f h a in
+    ap₂ (λ (x : Front) (y : Event). eventLines x y ++ hearsLines x hs) (r .0) (r .1) ∙ rests-lines f hs a
+
+-- whatever comes to it, its frame is the same
+pub frame-rests : (m : Member) (hs hs′ : List Heartbeat) → Rests (m .front) → (frameOf m hs ≡ frameOf m hs′) × (frameLines m hs ≡ frameLines m hs′)
+unfolding frameOf frameLines
+frame-rests m hs hs′ a =
+    let each = rests-each (begins m) hs a ∙ sym (rests-each (begins m) hs′ a) in (
+      ap ticks each,
+      ap₂ (λ (x : List ℕ) (y : Member). x ++ ticksLines (y .front)) (rests-lines (begins m .front) hs a ∙ sym (rests-lines (begins m .front) hs′ a)) each,
+    )

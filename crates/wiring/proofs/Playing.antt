@@ -19,11 +19,11 @@ use Rattle.day.specs.Day.{lastLine}
 use Rattle.reached.proofs.Sound.{Sound, sound-advanced}
 use Rattle.reached.proofs.Made.{sound-fresh}
 use Rattle.reached.proofs.Reached.{sound-by, sound-call}
-use Rattle.wiring.specs.Heard.{Group, Seated, Heard}
+use Rattle.wiring.specs.Heard.{Group, Heard}
 use Rattle.wiring.specs.Group as group
-use Rattle.wiring.specs.Group.{framed, moved}
+use Rattle.wiring.specs.Group.{framed, moved, MustHear}
 use Rattle.wiring.specs.Same.{groupOf, callOf}
-use Rattle.wiring.specs.Days.{Plays, stays, plays, stopsIn, stopsBeyond, lineStops, Prints, over, faults, stops, early, enters, endsEarly, ends, CanPrint, DaysCanBePlayed}
+use Rattle.wiring.specs.Days.{Plays, stays, plays, stopsIn, stopsBeyond, lineStops, Prints, unended, faults, stops, early, enters, endsEarly, ends, CanPrint, DaysCanBePlayed}
 use Rattle.wiring.proofs.Inboxes.{inbox-heard}
 use Rattle.wiring.proofs.Frames.{framed-is}
 use Rattle.wiring.proofs.Moves.{moved-is, new-group}
@@ -39,7 +39,7 @@ unfolding advancedBy
 can-play zero c sound = record { lines = []; plays = stays }
 can-play (suc n) c sound =
     let r = can-play n (advanced c) (sound-advanced c sound) in
-    let heard : (j : ℕ) → Seated (groupOf c) j → Heard (groupOf c) j (inbox c j) = λ j _. inbox-heard c sound j in
+    let heard : (j : ℕ) → MustHear (groupOf c) j → Heard (groupOf c) j (inbox c j) = λ j _. inbox-heard c sound j in
     record {
       lines = _;
       plays = plays (inbox c) heard (subst (λ (g : Group). Plays n g (groupOf (advancedBy n (advanced c))) (r .lines)) (sym (framed-is c sound (inbox c) heard)) (r .plays));
@@ -101,7 +101,7 @@ module _ (k : ℕ) (c : State) (l : List ℕ) (ls : List (List ℕ)) (sound : So
       on (zero-or-more (lineStops k (groupOf c) (end t))) (ended t e) (λ m. at-stop k c l ls (m .0) (ap (lineStops k (groupOf c)) e ∙ m .1))
 
 can-print : (k : ℕ) (c : State) (ls : List (List ℕ)) → Sound c → CanPrint k (groupOf c) ls
-can-print k c [] sound = record { printed = _; prints = over }
+can-print k c [] sound = record { printed = _; prints = unended }
 can-print k c (l ∷ ls) sound = line k c l ls sound (λ d s. can-print (suc k) d ls s) (lineRead l) refl
 
 pub days-can-be-played : DaysCanBePlayed

@@ -5,15 +5,17 @@ use mathlib.Core.Logic.{_⊎_, inl, inr}
 use mathlib.Core.List.{List, [], _∷_}
 use Prim.Native.Nat.{ℕ, _+_, _<_, _≤_}
 use borrow.Author.Tests.{eqb-true}
+use native.Mathlib.Omega.{arith}
 use lib.Dec.{eqb}
+use lib.ListN.{length, List·getD-eq-default}
 use Rattle.lists.specs.Choice.{choose}
-use Rattle.lists.proofs.Cases.{tested, chosen, other, and-true, fst-true, snd-true, on, clash, refuted}
+use Rattle.lists.proofs.Cases.{tested, less, chosen, other, and-true, fst-true, snd-true, on, clash, refuted}
 use Rattle.heartbeat.specs.declared.Rank.{Rank}
 use Rattle.heartbeat.specs.Rank.{higher}
 use Rattle.roles.specs.declared.Role.{Role}
 use Rattle.roles.specs.declared.Role.the-variants.{Backup, Primary}
 use Rattle.roles.specs.Roles.{isActive, isBeating}
-use Rattle.server.specs.Server.{rankOf}
+use Rattle.server.specs.Server.{absent, rankOf}
 use Rattle.group.specs.declared.Table.{Table}
 use Rattle.group.specs.declared.State.{State}
 use Rattle.group.specs.Table.{isEmpty, freshRefusal, fresh}
@@ -32,7 +34,7 @@ use Rattle.wiring.specs.Members.{Member, nobody}
 use Rattle.wiring.specs.Heard.{Group, memberAt}
 use Rattle.wiring.specs.Group.{newGroup, Move, frame, entry, moveNumber, moved, groupAfter, Wired, none, next}
 use Rattle.wiring.specs.Same.{groupOf, callOf, callsOf}
-use Rattle.wiring.specs.Settles.{roleAt, above, cutByMove, cutAfterMoves, isRefusedEntry, entriesRefused, GroupLed, NoneBeating, HighestInGroup, GroupSettles, GroupsSettle}
+use Rattle.wiring.specs.Settles.{roleAt, higherAt, cutByMove, cutAfterMoves, refusedIfEntry, entriesRefused, GroupLed, NoneBeating, HighestInGroup, GroupSettles, GroupsSettle}
 use Rattle.wiring.proofs.Inboxes.{member-at, not-vacant}
 use Rattle.wiring.proofs.Moves.{move-number, moved-is, agrees, new-group}
 
@@ -66,11 +68,11 @@ unfolding entriesRefused verbsRefused callsOf
 refused-verbs c [] sound w e = refl
 refused-verbs c (k ∷ ks) sound (next w ws) e =
     let step = moved-is c k sound w in
-    and-true (one k (fst-true (isRefusedEntry (groupOf c) k) (entriesRefused (moved (groupOf c) k) ks) e))
+    and-true (one k (fst-true (refusedIfEntry (groupOf c) k) (entriesRefused (moved (groupOf c) k) ks) e))
     (refused-verbs (callChannel c (callOf c k)) ks (sound-call c (callOf c k) sound) (subst (λ (g : Group). Wired g ks) step ws)
-    (ap (λ (g : Group). entriesRefused g ks) (sym step) ∙ snd-true (isRefusedEntry (groupOf c) k) (entriesRefused (moved (groupOf c) k) ks) e))
+    (ap (λ (g : Group). entriesRefused g ks) (sym step) ∙ snd-true (refusedIfEntry (groupOf c) k) (entriesRefused (moved (groupOf c) k) ks) e))
   where
-    one : (k : Move) → isRefusedEntry (groupOf c) k ≡ true → refusedIfVerb c (callOf c k) ≡ true
+    one : (k : Move) → refusedIfEntry (groupOf c) k ≡ true → refusedIfVerb c (callOf c k) ≡ true
     one (frame hear) f = other _ refl
     one (entry v a b) f = chosen true refl ∙ ap (λ (n : ℕ). not (eqb n 0)) (sym (move-number c (entry v a b))) ∙ f
 
@@ -96,13 +98,28 @@ is-active : (isActive Primary ≡ true) × (isActive Backup ≡ true)
 unfolding isActive
 is-active = (refl, refl)
 
-led-group : (c d : State) (h : ℕ) → h < 16 → Sound d → Led c h d → GroupLed (groupOf c) h (groupOf d)
-led-group c d h l sound led =
+-- places keep the ranks of their servers
+ranks-at : (c d : State) (i : ℕ) → rankOf (place d i) ≡ rankOf (place c i) → rankOf (memberAt (groupOf d) i .front .server) ≡ rankOf (memberAt (groupOf c) i .front .server)
+ranks-at c d i e =
+    let same : isEmpty (place d i) ≡ isEmpty (place c i) = ap (λ (r : Rank). eqb (r .identity) 0) e in
+    on (tested (isEmpty (place c i)))
+    (λ q.
+    ap (λ (m : Member). rankOf (m .front .server)) (member-at d i ∙ chosen _ (same ∙ q))
+    ∙ sym (ap (λ (m : Member). rankOf (m .front .server)) (member-at c i ∙ chosen _ q)))
+    (λ q. rank-at d i (same ∙ q) ∙ e ∙ sym (rank-at c i q))
+
+-- beyond the places there is nobody
+ranks-beyond : (c d : State) (i : ℕ) → length (c .servers) ≤ i → length (d .servers) ≤ i → rankOf (memberAt (groupOf d) i .front .server) ≡ rankOf (memberAt (groupOf c) i .front .server)
+ranks-beyond c d i h l = ranks-at c d i (ap rankOf (List·getD-eq-default (d .servers) absent l ∙ sym (List·getD-eq-default (c .servers) absent h)))
+
+led-group : (c d : State) (h : ℕ) → h < 16 → Sound c → Sound d → Led c h d → GroupLed (groupOf c) h (groupOf d)
+led-group c d h l sc sound led =
     record {
       primary = seated-role d sound h l (active-by _ Primary (is-active .0) (led .primary)) ∙ led .primary;
       alone = λ i q e. led .alone i q (sym (active-role d i (active-by _ Primary (is-active .0) e)) ∙ e);
       backups = λ i q n a.
           let b = led .backups i q n (active-there c i a) in seated-role d sound i q (active-by _ Backup (is-active .1) b) ∙ b;
+      ranks = λ i. on (less i 16) (λ q. ranks-at c d i (led .ranks i q)) (λ q. ranks-beyond c d i (omega (arith, q, sc .long)) (omega (arith, q, sound .long)));
     }
 
 none-beating : (c : State) → Sound c → NoneBeating (groupOf c) → NoneProspectOrPrimary c
@@ -128,7 +145,7 @@ settles-of n c sound s =
           let r = agrees c ms sound w in
           let d = channelAfter c (callsOf c ms) in
           subst (GroupLed (groupOf c) h) (sym (r .group))
-          (led-group c d h (s .known) (sound-after c (callsOf c ms) sound)
+          (led-group c d h (s .known) sound (sound-after c (callsOf c ms) sound)
           (s .led (callsOf c ms) (refused-verbs c ms sound w e) (subst (λ (g : Group). c .frame + n ≤ g .frame) (r .group) late)));
       highest = λ ms w e one none.
           let r = agrees c ms sound w in

@@ -14,9 +14,9 @@ use Rattle.group.specs.Table.{empty, addRefusal, added, freshRefusal}
 use Rattle.day.specs.Read.{DayLine, wrong, period, server, entry, end, linesIn, lineRead}
 use Rattle.day.specs.Day.{lastLine}
 use Rattle.day.specs.Sheet.{header, inputRefusal, sheet}
-use Rattle.wiring.specs.Heard.{Group, Seated, Heard}
+use Rattle.wiring.specs.Heard.{Group, Heard}
 use Rattle.wiring.specs.Group as group
-use Rattle.wiring.specs.Group.{newGroup, framed, linesEach, knows, entryNumber, entryLines, moved}
+use Rattle.wiring.specs.Group.{newGroup, framed, linesEach, knows, entryNumber, entryLines, moved, MustHear}
 
 -- ---- frames
 
@@ -24,7 +24,7 @@ use Rattle.wiring.specs.Group.{newGroup, framed, linesEach, knows, entry
 pub data Plays : ℕ → Group → Group → List ℕ → Type 0 where
   stays : {g : Group} → Plays 0 g g []
   plays :
-      {n : ℕ} {g d : Group} {w : List ℕ} (hear : ℕ → List Heartbeat) → ((j : ℕ) → Seated g j → Heard g j (hear j)) →
+      {n : ℕ} {g d : Group} {w : List ℕ} (hear : ℕ → List Heartbeat) → ((j : ℕ) → MustHear g j → Heard g j (hear j)) →
       Plays n (framed hear g) d w → Plays (suc n) g d (linesEach hear 0 (g .members) ++ w)
 
 -- ---- one line
@@ -64,7 +64,7 @@ closed k (l ∷ ls) = inputRefusal k (stopsBeyond (lineRead l))
 -- what the group g may print from line k on, where these lines are still to come
 pub data Prints : ℕ → Group → List (List ℕ) → List ℕ → Type 0 where
   -- "input ended without `end`"
-  over : {k : ℕ} {g : Group} → Prints k g [] (inputRefusal k 4)
+  unended : {k : ℕ} {g : Group} → Prints k g [] (inputRefusal k 4)
   faults : {k n : ℕ} {g : Group} {l : List ℕ} {ls : List (List ℕ)} → lineRead l ≡ wrong n → Prints k g (l ∷ ls) (inputRefusal k n)
   stops : {k n : ℕ} {g : Group} {l : List ℕ} {ls : List (List ℕ)} → lineStops k g (lineRead l) ≡ suc n → Prints k g (l ∷ ls) (inputRefusal k (suc n))
   -- "11. Time before the present frame.", by whoever keeps the clock
@@ -114,13 +114,13 @@ pub record DayOf (s : List ℕ) (t : Table) (n k : ℕ) (rest : List (List ℕ))
   pub taken : freshRefusal t n ≡ 0
   pub line : k ≡ length servers + 2
 
--- whatever a group of fronts prints for a day that is wired by the protocol is the day's sheet
+-- whatever a group of fronts that is wired by the protocol prints for a day is the day's sheet
 abbrev pub OneSheetOfADay : Type 0
 OneSheetOfADay =
     (s : List ℕ) (t : Table) (n k : ℕ) (rest : List (List ℕ)) (w : List ℕ) → DayOf s t n k rest → Prints k (newGroup t n) rest w →
     sheet s ≡ header ++ w
 
--- and a group can print something for every day
+-- and a group can print something for every such day
 pub record CanPrint (k : ℕ) (g : Group) (rest : List (List ℕ)) : Type 0 where
   pub printed : List ℕ
   pub prints : Prints k g rest printed

@@ -13,6 +13,7 @@ use Rattle.roles.specs.declared.Verb.{Verb}
 use Rattle.roles.specs.declared.Verb.the-variants.{Start, Ready, Unready, Pass, Crash, Restart, Cut, Mend}
 use Rattle.roles.specs.declared.Word.the-variants as word
 use Rattle.roles.specs.declared.Said.the-variants as says
+use Rattle.roles.specs.Roles.{isActive}
 use Rattle.roles.specs.Verbs.{paired}
 use Rattle.server.specs.declared.Server.{Server}
 use Rattle.server.specs.Verbs.{verbAnswer}
@@ -148,10 +149,14 @@ unfoldable pub groupLines : Group → List Move → List ℕ
 groupLines g [] = []
 groupLines g (k ∷ ks) = choose (eqb (moveNumber g k) 0) (moveLines g k) [] ++ groupLines (moved g k) ks
 
--- ---- the wires do what they must: in each frame that is played, each server hears what it must
+-- ---- the wires do what they must: in each frame that is played, each server hears what it must.
+-- One that is down, idle or in sync may hear anything, or nothing: "down, idle, sync: nothing"
+
+abbrev pub MustHear : Group → ℕ → Type 0
+MustHear g j = Seated g j × (isActive (memberAt g j .front .server .role) ≡ true)
 
 abbrev pub WiredIn : Group → Move → Type 0
-WiredIn g (frame hear) = inDay (g .frame + 1) ≡ true → (j : ℕ) → Seated g j → Heard g j (hear j)
+WiredIn g (frame hear) = inDay (g .frame + 1) ≡ true → (j : ℕ) → MustHear g j → Heard g j (hear j)
 WiredIn g (entry v a b) = Unit {0}
 
 pub data Wired : Group → List Move → Type 0 where

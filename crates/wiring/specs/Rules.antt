@@ -1,7 +1,7 @@
 -- The number of the rules, and what servers that play by the same rules have of it.
 use mathlib.Core.Path.{_≡_}
 use Prim.Native.Nat.{ℕ}
-use Rattle.wiring.specs.Same.{OneSheet, ProtocolCanBeMet, SortedIsHeard, mostHeard, FewAreHeard}
+use Rattle.wiring.specs.Same.{OneSheet, ProtocolCanBeMet, SortedIsHeard, mostHeard, FewAreSent, FewAreHeard}
 use Rattle.wiring.specs.Settles.{GroupsSettle}
 use Rattle.wiring.specs.Days.{OneSheetOfADay, DaysCanBePlayed}
 
@@ -11,7 +11,7 @@ rulesNumber = 1
 
 pub record Rules (r : ℕ) : Type 0 where
   pub number : r ≡ rulesNumber
-  -- (the paper's reason) "one sheet, whoever builds the server"
+  -- one sheet, whoever builds the server
   pub sheets : OneSheet
   pub days : OneSheetOfADay
   pub played : DaysCanBePlayed
@@ -19,8 +19,9 @@ pub record Rules (r : ℕ) : Type 0 where
   pub sorted : SortedIsHeard
   pub settles : GroupsSettle
 
--- ---- how much may come in a frame
+-- ---- how much may be sent and come in a frame
 
 pub record MostHeard (r : ℕ) : Type 0 where
   pub figure : r ≡ mostHeard
+  pub sent : FewAreSent
   pub few : FewAreHeard

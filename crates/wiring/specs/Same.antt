@@ -1,5 +1,4 @@
--- A group of fronts wired by the protocol is the channel: "the rules must yield one sheet, whoever
--- builds the server".
+-- A group of fronts wired by the protocol is the channel: one sheet, whoever builds the server.
 use mathlib.Core.List.{List, [], _∷_, map}
 use mathlib.Core.Path.{_≡_}
 use Prim.Native.Nat.{ℕ, _+_, _-_, _*_, _<_, _≤_}
@@ -16,7 +15,7 @@ use Rattle.group.specs.Verbs.{verbOutcome}
 use Rattle.group.specs.Calls.{Call, verb, advance, callChannel, channelAfter, numbersOf}
 use Rattle.group.specs.Laws.{linesAfter}
 use Rattle.wiring.specs.Members.{Member, nobody}
-use Rattle.wiring.specs.Heard.{Group, Comes, Heard, sorted}
+use Rattle.wiring.specs.Heard.{Group, memberAt, Comes, Heard, sorted}
 use Rattle.wiring.specs.Group.{newGroup, Move, frame, entry, groupAfter, groupNumbers, groupLines, Wired}
 
 -- the group that the channel c stands for: each server in a front of its own, with what it sent
@@ -63,10 +62,18 @@ SortedIsHeard =
     (t : Table) (n : ℕ) (ks : List Move) → freshRefusal t n ≡ 0 → Wired (newGroup t n) ks →
     let g = groupAfter (newGroup t n) ks in (j : ℕ) (hs : List Heartbeat) → Comes g j hs → Heard g j (sorted [] hs)
 
--- and no more comes than this to a place in a frame: of 15 other servers, of each at most 15 plain
--- beats, a reveal and a pass
+-- and no server sends more than this in a frame: plain beats, a reveal and a pass
+abbrev pub mostSent : ℕ
+mostSent = mostBeats + 2
+
+abbrev pub FewAreSent : Type 0
+FewAreSent =
+    (t : Table) (n : ℕ) (ks : List Move) → freshRefusal t n ≡ 0 → Wired (newGroup t n) ks →
+    (i : ℕ) → length (memberAt (groupAfter (newGroup t n) ks) i .sent) ≤ mostSent
+
+-- so that no more comes to a place: what all others sent
 abbrev pub mostHeard : ℕ
-mostHeard = (most - 1) * (mostBeats + 2)
+mostHeard = (most - 1) * mostSent
 
 abbrev pub FewAreHeard : Type 0
 FewAreHeard =

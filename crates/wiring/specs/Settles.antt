@@ -22,8 +22,8 @@ abbrev pub roleAt : Group → ℕ → Role
 roleAt g i = memberAt g i .front .server .role
 
 -- the server of place a is higher than that of place b
-abbrev pub above : Group → ℕ → ℕ → Bool
-above g a b = higher (rankOf (memberAt g a .front .server)) (rankOf (memberAt g b .front .server))
+abbrev pub higherAt : Group → ℕ → ℕ → Bool
+higherAt g a b = higher (rankOf (memberAt g a .front .server)) (rankOf (memberAt g b .front .server))
 
 -- ---- "no link is cut"
 
@@ -42,22 +42,24 @@ NoneCut g ks = (a b : ℕ) → cutAfterMoves a b g ks false ≡ false
 
 -- ---- "from then on only advances are accepted"
 
-abbrev pub isRefusedEntry : Group → Move → Bool
-isRefusedEntry g (frame hear) = true
-isRefusedEntry g (entry v a b) = not (eqb (moveNumber g (entry v a b)) 0)
+abbrev pub refusedIfEntry : Group → Move → Bool
+refusedIfEntry g (frame hear) = true
+refusedIfEntry g (entry v a b) = not (eqb (moveNumber g (entry v a b)) 0)
 
 unfoldable pub entriesRefused : Group → List Move → Bool
 entriesRefused g [] = true
-entriesRefused g (k ∷ ks) = isRefusedEntry g k && entriesRefused (moved g k) ks
+entriesRefused g (k ∷ ks) = refusedIfEntry g k && entriesRefused (moved g k) ks
 
 -- ---- settled
 
 -- "exactly one server is primary, .. and each other server that was in one of those roles after the
--- list is in backup": g is the group after the list, d the one later, h the place of the one server
+-- list is in backup": g is the group after the list, d the one later, h the place of the one server.
+-- Each place has the same server in both
 pub record GroupLed (g : Group) (h : ℕ) (d : Group) : Type 0 where
   pub primary : roleAt d h ≡ Primary
   pub alone : (i : ℕ) → i < most → roleAt d i ≡ Primary → i ≡ h
   pub backups : (i : ℕ) → i < most → i ≢ h → isActive (roleAt g i) ≡ true → roleAt d i ≡ Backup
+  pub ranks : (i : ℕ) → rankOf (memberAt d i .front .server) ≡ rankOf (memberAt g i .front .server)
 
 -- "none was prospect or primary"
 abbrev pub NoneBeating : Group → Type 0
@@ -65,7 +67,7 @@ NoneBeating g = (i : ℕ) → i < most → isBeating (roleAt g i) ≡ false
 
 -- "the highest of the servers that were in those roles after the list"
 abbrev pub HighestInGroup : Group → ℕ → Type 0
-HighestInGroup g h = (i : ℕ) → i < most → isActive (roleAt g i) ≡ true → (i ≡ h) ⊎ (above g h i ≡ true)
+HighestInGroup g h = (i : ℕ) → i < most → isActive (roleAt g i) ≡ true → (i ≡ h) ⊎ (higherAt g h i ≡ true)
 
 -- the group g is settled w frames later
 pub record GroupSettles (w : ℕ) (g : Group) : Type 0 where

@@ -20,9 +20,9 @@ pub fn rules() -> u32
 pub const SENT: usize = Server::BEATS as usize + 2;
 
 // The most that come to a server in one frame: those of all others.
-pub const HEARD: usize = (Table::SERVERS - 1) * (Server::BEATS as usize + 2);
+pub const HEARD: usize = (Table::SERVERS - 1) * SENT;
 
-// The most heartbeats that come to a server in one frame.
+// The most heartbeats that come to a server in one frame, with the laws of both limits.
 pub fn most_heard() -> usize
     ensures { λ r. ⌜ MostHeard r ⌝ }
 {
