@@ -2,13 +2,14 @@
 -- Assumes nothing.
 use mathlib.Core.Bool.{Bool, true, false, not, _&&_, _||_}
 use mathlib.Core.Path.{_≡_, refl, sym, ap, ap₂, subst, _∙_}
+use mathlib.Core.Logic.{_⊎_, inl, inr}
 use mathlib.Core.List.{List, [], _∷_, _++_, map, append-nil, append-assoc, List·Memᴰ, List·Memᴰ·head, List·Memᴰ·tail}
 use Prim.Native.Nat.{ℕ, suc}
 use native.Mathlib.Omega.{arith}
 use borrow.Author.Tests.{eq-eqb, ne-eqb, eqb-true}
 use lib.Dec.{eqb}
 use Rattle.lists.specs.Choice.{choose}
-use Rattle.lists.proofs.Cases.{tested, equal, chosen, other, and-true, and-left, refuted, on, by-choice}
+use Rattle.lists.proofs.Cases.{tested, equal, chosen, other, and-true, and-right, refuted, on, clash, by-choice}
 use Rattle.refusal.specs.Answer.{Answer}
 use Rattle.heartbeat.specs.declared.Heartbeat.{Heartbeat}
 use Rattle.heartbeat.specs.declared.Rank.{Rank}
@@ -44,7 +45,8 @@ use Rattle.playout.specs.declared.Sending.{Sending}
 use Rattle.playout.specs.Front.{ill, beginNumber, Begins, Hears, heardNumbers, notHeard, Ticks, timedNumbers, notTimed, afterVerb, actNumber, Acts, sendingOf, isSent, frontSends}
 use Rattle.playout.specs.Writing.{frontLines}
 use Rattle.wiring.specs.Members.{Member, behind, eventLines, begins, hearsEach, hearsLines, ticks, ticksLines, frameOf, frameLines, acts, actsLines}
-use Rattle.plainwiring.specs.Calls.{PlainMember, sentIn, HearsAll, done, hear, FrameCalls, plays, stays, passedTo, ActCalls}
+use Rattle.wiring.proofs.Members.{Rests, rests-one}
+use Rattle.plainwiring.specs.Calls.{PlainMember, sentIn, HearsAll, done, hear, FrameCalls, frameGoes, frameOver, passedTo, ActCalls}
 use Rattle.plainwiring.specs.Group.{memberFrom}
 
 -- ---- decoding
@@ -164,11 +166,27 @@ rising-none Primary t = record { passes = refl; sent = refl }
 
 -- ---- hearing
 
-heard-is : (p q : PlainFront) (h : PlainHeartbeat) (r : FrontHeard) → isFront p ≡ true → isHeartbeat h ≡ true → Hears p h r q → (isFront q ≡ true) × ((frontOf q ≡ hearing (frontOf p) (heartbeatOf h) .front) × (r .event ≡ eventNumber (hearing (frontOf p) (heartbeatOf h) .answer .event)))
-heard-is p q h r i j w =
+-- the heartbeat decodes, or the front hears nothing anyway
+abbrev pub MayHear : Front → PlainHeartbeat → Type 0
+MayHear f h = (isHeartbeat h ≡ true) ⊎ Rests f
+
+heard-is : (p q : PlainFront) (h : PlainHeartbeat) (r : FrontHeard) → isFront p ≡ true → MayHear (frontOf p) h → Hears p h r q → (isFront q ≡ true) × ((frontOf q ≡ hearing (frontOf p) (heartbeatOf h) .front) × (r .event ≡ eventNumber (hearing (frontOf p) (heartbeatOf h) .answer .event)))
+heard-is p q h r i may w =
+    on (tested (isHeartbeat h))
+    (λ j.
     let t = and-true i j in
     let b = back q (hearing (frontOf p) (heartbeatOf h) .front) (w .front ∙ chosen p t) (period-in (p .period)) in
-    (b .0, (b .1, ap (λ (x : FrontHeard). x .event) (w .answer ∙ chosen notHeard t)))
+    (b .0, (b .1, ap (λ (x : FrontHeard). x .event) (w .answer ∙ chosen notHeard t))))
+    (λ j.
+    let t = and-right (isFront p) j in
+    let same : q ≡ p = w .front ∙ other (plainFront (hearing (frontOf p) (heartbeatOf h) .front)) t in
+    let rests = rests-one (frontOf p) (heartbeatOf h) (on may (λ z. absurd (clash z j)) (λ a. a)) in (
+      ap isFront same ∙ i,
+      (
+        ap frontOf same ∙ sym (rests .0),
+        ap (λ (x : FrontHeard). x .event) (w .answer ∙ other (heardNumbers (hearing (frontOf p) (heartbeatOf h) .answer)) t) ∙ ap eventNumber (sym (rests .1)),
+      ),
+    ))
 
 pub record HeardAs (m : Member) (hs : List PlainHeartbeat) (z : PlainFront) (s : List PlainHeartbeat) (w : List ℕ) : Type 0 where
   pub decodes : isFront z ≡ true
@@ -176,21 +194,17 @@ pub record HeardAs (m : Member) (hs : List PlainHeartbeat) (z : PlainFront) (s :
   pub sent : m .sent ++ map heartbeatOf s ≡ hearsEach m (map heartbeatOf hs) .sent
   pub lines : w ≡ hearsLines (m .front) (map heartbeatOf hs)
 
--- each of a list can be heard
-abbrev pub Hearable : List PlainHeartbeat → Type 0
-Hearable hs = (h : PlainHeartbeat) → List·Memᴰ h hs → isHeartbeat h ≡ true
-
-hears-are : (p : PlainFront) (hs : List PlainHeartbeat) (z : PlainFront) (s : List PlainHeartbeat) (w : List ℕ) (m : Member) → isFront p ≡ true → m .front ≡ frontOf p → Hearable hs → HearsAll p hs z s w → HeardAs m hs z s w
+hears-are : (p : PlainFront) (hs : List PlainHeartbeat) (z : PlainFront) (s : List PlainHeartbeat) (w : List ℕ) (m : Member) → isFront p ≡ true → m .front ≡ frontOf p → ((h : PlainHeartbeat) → List·Memᴰ h hs → MayHear (m .front) h) → HearsAll p hs z s w → HeardAs m hs z s w
 unfolding hearsEach hearsLines
 hears-are p hs z s w m i e good done = record { decodes = i; front = sym e; sent = append-nil (m .sent); lines = refl }
 hears-are p hs z s w m i e good (hear {q = q} {h = h} {hs = hs′} {s = s′} {r = r} {w = w′} call more) =
-    let a = heard-is p q h r i (good h (List·Memᴰ·head refl)) call in
+    let a = heard-is p q h r i (subst (λ (x : Front). MayHear x h) e (good h (List·Memᴰ·head refl))) call in
     let f = hearing (m .front) (heartbeatOf h) .front in
     let v = hearing (m .front) (heartbeatOf h) .answer .event in
     let of : frontOf q ≡ f = a .1 .0 ∙ ap (λ (x : Front). hearing x (heartbeatOf h) .front) (sym e) in
     let num : r .event ≡ eventNumber v = a .1 .1 ∙ ap (λ (x : Front). eventNumber (hearing x (heartbeatOf h) .answer .event)) (sym e) in
     let none : Told v 0 = hears-none (m .front .server .role) (m .front .server) (heartbeatOf h) in
-    let k = hears-are q hs′ z s′ w′ (behind m f v) (a .0) (sym of) (λ g n. good g (List·Memᴰ·tail n)) more in
+    let k = hears-are q hs′ z s′ w′ (behind m f v) (a .0) (sym of) (λ g n. goes-on g (good g (List·Memᴰ·tail n))) more in
     record {
       decodes = k .decodes;
       front = k .front;
@@ -201,6 +215,11 @@ hears-are p hs z s w m i e good (hear {q = q} {h = h} {hs = hs′} {s = s′} {r
           ∙ k .sent;
       lines = ap₂ (λ (x y : List ℕ). x ++ y) (lines-is q f of v (r .event) num) (k .lines);
     }
+  where
+    -- a front that rests goes on resting
+    goes-on : (g : PlainHeartbeat) → MayHear (m .front) g → MayHear (hearing (m .front) (heartbeatOf h) .front) g
+    goes-on g (inl z) = inl z
+    goes-on g (inr a) = inr (subst Rests (sym (rests-one (m .front) (heartbeatOf h) a .0)) a)
 
 -- ---- timers
 
@@ -249,7 +268,7 @@ ticks-are p z r m i e w =
 
 -- ---- a frame
 
-begin-number : (p : PlainFront) → isFront p ≡ true → beginNumber p ≡ choose (goesOn (frontOf p)) 0 16
+pub begin-number : (p : PlainFront) → isFront p ≡ true → beginNumber p ≡ choose (goesOn (frontOf p)) 0 16
 unfolding beginNumber
 begin-number p i = chosen _ i
 
@@ -259,11 +278,11 @@ pub record FramedAs (m : PlainMember) (hs : List PlainHeartbeat) (m′ : PlainMe
   pub lines : w ≡ frameLines (memberFrom m) (map heartbeatOf hs)
 
 -- where the day has a next frame
-pub framed-as : (m m′ : PlainMember) (hs : List PlainHeartbeat) (w : List ℕ) → isFront (m .front) ≡ true → goesOn (frontOf (m .front)) ≡ true → Hearable hs → FrameCalls m hs m′ w → FramedAs m hs m′ w
+pub framed-as : (m m′ : PlainMember) (hs : List PlainHeartbeat) (w : List ℕ) → isFront (m .front) ≡ true → goesOn (frontOf (m .front)) ≡ true → ((h : PlainHeartbeat) → List·Memᴰ h hs → MayHear (frontOf (m .front)) h) → FrameCalls m hs m′ w → FramedAs m hs m′ w
 unfolding frameOf frameLines
-framed-as m m′ hs w i on-goes good (stays {n = n} call) =
+framed-as m m′ hs w i on-goes good (frameOver {n = n} call) =
     absurd (let z : suc n ≡ 0 = call .number ∙ begin-number (m .front) i ∙ chosen 16 on-goes in omega (arith, z))
-framed-as m m′ hs w i on-goes good (plays {q = q} {y = y} {z = z} {s = s} {r = r} {w = w′} call heard ticked) =
+framed-as m m′ hs w i on-goes good (frameGoes {q = q} {y = y} {z = z} {s = s} {r = r} {w = w′} call heard ticked) =
     let p = m .front in
     let zero = begin-number p i ∙ chosen 16 on-goes in
     let b = back q (risen (frontOf p)) (call .front ∙ chosen p (eq-eqb (beginNumber p) 0 zero)) (period-in (p .period)) in
@@ -287,9 +306,9 @@ framed-as m m′ hs w i on-goes good (plays {q = q} {y = y} {z = z} {s = s} {r =
 
 -- and where it has none: the same member, and no line
 pub stays-as : (m m′ : PlainMember) (hs : List PlainHeartbeat) (w : List ℕ) → isFront (m .front) ≡ true → goesOn (frontOf (m .front)) ≡ false → FrameCalls m hs m′ w → (m′ ≡ m) × (w ≡ [])
-stays-as m m′ hs w i over (plays call heard ticked) =
+stays-as m m′ hs w i over (frameGoes call heard ticked) =
     absurd (let z : _≡_ {A = ℕ} 0 16 = call .number ∙ begin-number (m .front) i ∙ other 0 over in omega (arith, z))
-stays-as m m′ hs w i over (stays call) =
+stays-as m m′ hs w i over (frameOver call) =
     let p = m .front in
     let late : eqb (beginNumber p) 0 ≡ false = ne-eqb (beginNumber p) 0 (λ z. omega (arith, sym z ∙ begin-number p i ∙ other 0 over)) in
     (ap (λ (x : PlainFront). record { front = x; sent = m .sent }) (call .front ∙ other (plainFront (risen (frontOf p))) late), refl)

@@ -2,6 +2,7 @@
 -- channel. Assumes nothing.
 use mathlib.Core.Bool.{Bool, true, false, not, _&&_, _||_}
 use mathlib.Core.Path.{_≡_, refl, sym, ap, ap₂, subst, _∙_}
+use mathlib.Core.Logic.{_⊎_, inl, inr}
 use mathlib.Core.List.{List, [], _∷_, _++_, map, List·Memᴰ, List·Memᴰ·head, List·Memᴰ·tail, List·Memᴰ·cases-cons}
 use Prim.Native.Nat.{ℕ, zero, suc, _+_, _*_, _<_}
 use native.Mathlib.Omega.{arith}
@@ -14,6 +15,7 @@ use Rattle.lists.specs.Lists.{mapFrom, indexWhere}
 use Rattle.lists.proofs.Cases.{tested, equal, chosen, other, and-true, fst-true, snd-true, or-false, refuted, on, clash, length-mapped}
 use Rattle.timecode.specs.Read.{inDay}
 use Rattle.heartbeat.specs.declared.Heartbeat.{Heartbeat}
+use Rattle.roles.specs.Roles.{isActive}
 use Rattle.roles.specs.declared.Verb.{Verb}
 use Rattle.roles.specs.declared.Verb.the-variants.{Start, Ready, Unready, Pass, Crash, Restart, Cut, Mend}
 use Rattle.periods.specs.Period.{takePeriod}
@@ -36,19 +38,19 @@ use Rattle.plain.specs.Numbers.{isPeriod, periodOf}
 use Rattle.plain.specs.Plain.{isFront, frontOf, plainFront, isHeartbeat, heartbeatOf}
 use Rattle.plain.proofs.Laws.{laws}
 use Rattle.playout.specs.declared.FrontMade.{FrontMade}
-use Rattle.playout.specs.Front.{frontMade}
+use Rattle.playout.specs.Front.{frontMade, Begins}
 use Rattle.wiring.specs.Members.{Member, nobody, identityOf, acts, actsLines}
 use Rattle.wiring.specs.Heard as heard
 use Rattle.wiring.specs.Heard.{Group, memberAt, Heard}
 use Rattle.wiring.specs.Group as wiring
-use Rattle.wiring.specs.Group.{newMember, newGroup, turn, framed, linesEach, placeIn, placeOf, isIn, knows, ownNumber, stateNumber, entryNumber, entered, entryLines, Move, moveNumber, movesTo, moveLines, moved, groupAfter, groupNumbers, groupLines, WiredIn, Wired}
+use Rattle.wiring.specs.Group.{newMember, newGroup, turn, framed, linesEach, placeIn, placeOf, isIn, knows, ownNumber, stateNumber, entryNumber, entered, entryLines, Move, moveNumber, movesTo, moveLines, moved, groupAfter, groupNumbers, groupLines, MustHear, WiredIn, Wired}
 use Rattle.wiring.specs.Same.{memberOf, groupOf, callOf}
 use Rattle.wiring.proofs.Inboxes.{member-at, taken}
 use Rattle.wiring.proofs.Moves.{moved-is, new-group, new-agrees}
 use Rattle.plainwiring.specs.Calls.{PlainMember, noMember, FrameCalls, ActCalls}
 use Rattle.plainwiring.specs.Group as plain
-use Rattle.plainwiring.specs.Group.{PlainGroup, memberFrom, groupFrom, isVacant, newPlainMember, newPlainGroup, TurnCalls, vacant, seated, clockNumber, PlainMove, frame, entry, moveFrom, ofLinks, placeAt, PlainMoved, turns, names, misses, links, PlainPlays, Decodes, IsPlayed, PlainGroupsPlay}
-use Rattle.plainwiring.proofs.Calls.{Hearable, framed-as, stays-as, acted-as}
+use Rattle.plainwiring.specs.Group.{PlainGroup, memberFrom, groupFrom, isVacant, newPlainMember, newPlainGroup, TurnCalls, vacant, seated, clockNumber, PlainMove, frame, entry, moveFrom, ofLinks, placeFrom, PlainMoved, turns, names, misses, links, PlainPlays, Decodes, IsPlayed, PlainGroupsPlay}
+use Rattle.plainwiring.proofs.Calls.{MayHear, begin-number, framed-as, stays-as, acted-as}
 
 -- ---- members
 
@@ -84,7 +86,7 @@ heardIn hear j = map heartbeatOf (hear j)
 
 -- what is needed of place j for its frame
 abbrev MayTurn : (ℕ → List PlainHeartbeat) → ℕ → PlainMember → Type 0
-MayTurn hear j m = isVacant m ≡ false → (isFront (m .front) ≡ true) × ((goesOn (frontOf (m .front)) ≡ true) × Hearable (hear j))
+MayTurn hear j m = isVacant m ≡ false → (isFront (m .front) ≡ true) × ((goesOn (frontOf (m .front)) ≡ true) × ((h : PlainHeartbeat) → List·Memᴰ h (hear j) → MayHear (frontOf (m .front)) h))
 
 pub record TurnedAs (hear : ℕ → List PlainHeartbeat) (k : ℕ) (ms ms′ : List PlainMember) (w : List ℕ) : Type 0 where
   pub members : map memberFrom ms′ ≡ mapFrom k (turn (heardIn hear)) (map memberFrom ms)
@@ -228,6 +230,11 @@ module _ (c : State) (sound : Sound c) (g : PlainGroup) (same : groupFrom g ≡ 
       let full : isEmpty (place c i) ≡ false = taken c i (ap (λ (x : Group). heard.isVacant (memberAt x i)) (sym same) ∙ ap heard.isVacant (stands (g .members) i) ∙ e) in
       ap (λ (m : Member). m .front .frame) (here ∙ other nobody full) ∙ ap (λ (x : Group). x .frame) (sym same)
 
+  -- so that its begin gets what the clock says
+  pub begin-clock : (i k : ℕ) (q : PlainFront) → isVacant (at i) ≡ false → Begins (at i .front) k q → k ≡ clockNumber g
+  unfolding Decodes
+  begin-clock i k q e b = b .number ∙ begin-number (at i .front) (all i e) ∙ ap (λ (t : ℕ). choose (inDay (t + 1)) 0 16) (in-step i e)
+
   -- a frame that the day has
   frame-taken : (hear : ℕ → List PlainHeartbeat) (ms : List PlainMember) (w : List ℕ) → WiredIn (groupFrom g) (moveFrom (frame hear)) → TurnCalls hear 0 (g .members) ms w → inDay (g .frame + 1) ≡ true → Stepped g (frame hear) (clockNumber g) (record { frame = choose (eqb (clockNumber g) 0) (g .frame + 1) (g .frame); members = ms; whole = g .whole }) w
   unfolding moveNumber movesTo moveLines framed Decodes
@@ -244,10 +251,14 @@ module _ (c : State) (sound : Sound c) (g : PlainGroup) (same : groupFrom g ≡ 
       (ap₂ (λ (t : ℕ) (l : List Member). record { frame = t; members = l; whole = g .whole }) (chosen (g .frame) (eq-eqb (clockNumber g) 0 now)) (r .members))
       (r .lines) (r .decodes)
     where
-      hearable : (i : ℕ) → isVacant (at i) ≡ false → i < 16 → Hearable (hear i)
+      hearable : (i : ℕ) → isVacant (at i) ≡ false → i < 16 → (h : PlainHeartbeat) → List·Memᴰ h (hear i) → MayHear (frontOf (at i .front)) h
       hearable i e l h m =
-          let k = wired day i (record { place = l; server = ap heard.isVacant (stands (g .members) i) ∙ e }) .comes .known (heartbeatOf h) (mem-map (hear i) m) in
-          ap not (ap (λ (t : ℕ). eqb t 0) (sym (k .identity)) ∙ k .seated .server)
+          on (tested (isActive (frontOf (at i .front) .server .role)))
+          (λ a.
+          let must : MustHear (groupFrom g) i = (record { place = l; server = ap heard.isVacant (stands (g .members) i) ∙ e }, ap (λ (x : Member). isActive (x .front .server .role)) (stands (g .members) i) ∙ a) in
+          let k = wired day i must .comes .known (heartbeatOf h) (mem-map (hear i) m) in
+          inl (ap not (ap (λ (t : ℕ). eqb t 0) (sym (k .identity)) ∙ k .seated .server)))
+          (λ a. inr a)
 
   -- and one that it has not
   frame-refused : (hear : ℕ → List PlainHeartbeat) (ms : List PlainMember) (w : List ℕ) → TurnCalls hear 0 (g .members) ms w → inDay (g .frame + 1) ≡ false → Stepped g (frame hear) (clockNumber g) (record { frame = choose (eqb (clockNumber g) 0) (g .frame + 1) (g .frame); members = ms; whole = g .whole }) w
@@ -265,18 +276,18 @@ module _ (c : State) (sound : Sound c) (g : PlainGroup) (same : groupFrom g ≡ 
   known-number v a b e f = other 2 e ∙ chosen 8 f
 
   -- the acting server stands in its place
-  acting : (v : Verb) (a b : ℕ) → namesNobody v a b ≡ false → knows (groupFrom g) v a b ≡ true → isVacant (at (placeAt g a)) ≡ false
+  acting : (v : Verb) (a b : ℕ) → namesNobody v a b ≡ false → knows (groupFrom g) v a b ≡ true → isVacant (at (placeFrom g a)) ≡ false
   unfolding namesNobody knows
   acting v a b e f =
-      let l = ltb-true (placeAt g a) 16 (fst-true (isIn (groupFrom g) a) _ f) in
+      let l = ltb-true (placeFrom g a) 16 (fst-true (isIn (groupFrom g) a) _ f) in
       let q = found-there (map memberFrom (g .members)) a (omega (arith, l, all-long)) in
       let z = eqb-false a 0 (or-false (eqb a 0) _ e .0) in
-      ne-eqb (at (placeAt g a) .front .server .identity) 0 (λ n. z (sym q ∙ ap identityOf (stands (g .members) (placeAt g a)) ∙ n))
+      ne-eqb (at (placeFrom g a) .front .server .identity) 0 (λ n. z (sym q ∙ ap identityOf (stands (g .members) (placeFrom g a)) ∙ n))
 
-  entry-acts : (v : Verb) (a b n : ℕ) (m : PlainMember) (w : List ℕ) → ofLinks v ≡ false → namesNobody v a b ≡ false → knows (groupFrom g) v a b ≡ true → ActCalls (at (placeAt g a)) v b n m w → Stepped g (entry v a b) n (record { frame = g .frame; members = set (g .members) (placeAt g a) m; whole = g .whole }) w
+  entry-acts : (v : Verb) (a b n : ℕ) (m : PlainMember) (w : List ℕ) → ofLinks v ≡ false → namesNobody v a b ≡ false → knows (groupFrom g) v a b ≡ true → ActCalls (at (placeFrom g a)) v b n m w → Stepped g (entry v a b) n (record { frame = g .frame; members = set (g .members) (placeFrom g a) m; whole = g .whole }) w
   unfolding movesTo moveLines Decodes
   entry-acts v a b n m w own e f calls =
-      let p = placeAt g a in
+      let p = placeFrom g a in
       let r = acted-as (at p) m v b n w (all p (acting v a b e f)) calls in
       let there = stands (g .members) p in
       let num : n ≡ moveNumber (groupFrom g) (wiring.entry v a b) =
@@ -295,7 +306,7 @@ module _ (c : State) (sound : Sound c) (g : PlainGroup) (same : groupFrom g ≡ 
       (ap (λ (l : List PlainMember). record { frame = g .frame; members = map memberFrom l; whole = g .whole }) unchanged)
       (r .refused z .1) (subst AllDecode (sym unchanged) all))
 
-  entry-links : (v : Verb) (a b n : ℕ) → ofLinks v ≡ true → namesNobody v a b ≡ false → knows (groupFrom g) v a b ≡ true → n ≡ stateNumber (groupFrom g) v a b → Stepped g (entry v a b) n (record { frame = g .frame; members = g .members; whole = choose (eqb n 0) (linksAfter v (linkOf (placeAt g a) (placeAt g b)) (g .whole)) (g .whole) }) (choose (eqb n 0) (entryLines (groupFrom g) v a b) [])
+  entry-links : (v : Verb) (a b n : ℕ) → ofLinks v ≡ true → namesNobody v a b ≡ false → knows (groupFrom g) v a b ≡ true → n ≡ stateNumber (groupFrom g) v a b → Stepped g (entry v a b) n (record { frame = g .frame; members = g .members; whole = choose (eqb n 0) (linksAfter v (linkOf (placeFrom g a) (placeFrom g b)) (g .whole)) (g .whole) }) (choose (eqb n 0) (entryLines (groupFrom g) v a b) [])
   unfolding movesTo moveLines
   entry-links v a b n of e f num =
       let is = num ∙ sym (known-number v a b e f) in
@@ -330,10 +341,11 @@ pub record PlayedAs (g : PlainGroup) (ks : List PlainMove) (ns : List ℕ) (d : 
   pub decodes : AllDecode (d .members)
   pub numbers : ns ≡ groupNumbers (groupFrom g) (map moveFrom ks)
   pub lines : w ≡ groupLines (groupFrom g) (map moveFrom ks)
+  pub begins : (i k : ℕ) (q : PlainFront) → isVacant (getD (d .members) i noMember) ≡ false → Begins (getD (d .members) i noMember .front) k q → k ≡ clockNumber d
 
 played-as : (c : State) (g : PlainGroup) (ks : List PlainMove) (ns : List ℕ) (d : PlainGroup) (w : List ℕ) → Sound c → groupFrom g ≡ groupOf c → AllDecode (g .members) → PlainPlays g ks ns d w → PlayedAs g ks ns d w
 unfolding groupAfter groupNumbers groupLines
-played-as c g ks ns d w sound same all plain.none = record { wired = wiring.none; group = refl; decodes = all; numbers = refl; lines = refl }
+played-as c g ks ns d w sound same all plain.none = record { wired = wiring.none; group = refl; decodes = all; numbers = refl; lines = refl; begins = begin-clock c sound g same all }
 played-as c g ks ns d w sound same all (plain.next {d = d′} {k = k} {n = n} {ks = ks′} {ns = ns′} {u = u} {w = w′} wired step rest) =
     let s = stepped c sound g same all k n d′ u wired step in
     let k′ = moveFrom k in
@@ -346,6 +358,7 @@ played-as c g ks ns d w sound same all (plain.next {d = d′} {k = k} {n = n} {k
       decodes = r .decodes;
       numbers = ap₂ (λ (x : ℕ) (y : List ℕ). x ∷ y) (s .number) (r .numbers ∙ ap (λ (x : Group). groupNumbers x (map moveFrom ks′)) (s .group));
       lines = ap₂ (λ (x y : List ℕ). x ++ y) (s .lines) (r .lines ∙ ap (λ (x : Group). groupLines x (map moveFrom ks′)) (s .group));
+      begins = r .begins;
     }
 
 -- ---- the group at frame 0
@@ -411,4 +424,5 @@ plain-groups-play t n ks ns d w ok plays =
       numbers = r .numbers ∙ ap (λ (x : Group). groupNumbers x (map moveFrom ks)) new;
       lines = r .lines ∙ ap (λ (x : Group). groupLines x (map moveFrom ks)) new;
       agrees = new-agrees t n (map moveFrom ks) ok wired;
+      begins = r .begins;
     }

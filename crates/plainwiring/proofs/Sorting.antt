@@ -12,7 +12,7 @@ use Rattle.plain.specs.Plain.{heartbeatOf}
 use Rattle.playout.specs.Writing.{plainHigher}
 use Rattle.wiring.specs.Heard.{keep, sorted}
 use Rattle.wiring.proofs.Keeping.{keep-before, keep-behind}
-use Rattle.plainwiring.specs.Heard.{keepPlain, sortedPlain, PlainSortIsTheSort}
+use Rattle.plainwiring.specs.Rules.{keepPlain, sortedPlain, PlainSortIsTheSort}
 
 plain-before : (h k : PlainHeartbeat) (l : List PlainHeartbeat) → eqb (plainHigher h k) 1 ≡ true → keepPlain h (k ∷ l) ≡ h ∷ k ∷ l
 unfolding keepPlain

@@ -42,12 +42,12 @@ pub data HearsAll : PlainFront → List PlainHeartbeat → PlainFront → List P
 -- `playout_front_begin`, `playout_front_hear` for each of hs, `playout_front_tick`; where begin is
 -- refused, nothing more: the member m before it and m′ after it, and the lines w
 pub data FrameCalls : PlainMember → List PlainHeartbeat → PlainMember → List ℕ → Type 0 where
-  plays :
+  frameGoes :
       {m : PlainMember} {q y z : PlainFront} {hs s : List PlainHeartbeat} {r : FrontTimed} {w : List ℕ} → Begins (m .front) 0 q → HearsAll q hs y s w → Ticks y r z →
       FrameCalls m hs
       (record { front = z; sent = ((s ++ sentIn z (r .silent) 0) ++ sentIn z (r .beating) 0) ++ sentIn z (r .rising) 0 })
       (w ++ (frontLines z (r .silent) ++ (frontLines z (r .beating) ++ frontLines z (r .rising))))
-  stays :
+  frameOver :
       {m : PlainMember} {n : ℕ} {q : PlainFront} {hs : List PlainHeartbeat} → Begins (m .front) (suc n) q →
       FrameCalls m hs (record { front = q; sent = m .sent }) []
 

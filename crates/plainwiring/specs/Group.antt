@@ -14,9 +14,10 @@ use Rattle.group.specs.declared.Table.{Table}
 use Rattle.group.specs.Table.{most, isEmpty, freshRefusal, fresh}
 use Rattle.group.specs.Hearing.{linkOf}
 use Rattle.group.specs.Verbs.{namesNobody, linksAfter}
+use Rattle.plain.specs.declared.PlainFront.{PlainFront}
 use Rattle.plain.specs.declared.PlainHeartbeat.{PlainHeartbeat}
 use Rattle.plain.specs.Plain.{isFront, frontOf, heartbeatOf}
-use Rattle.playout.specs.Front.{frontMade}
+use Rattle.playout.specs.Front.{frontMade, Begins}
 use Rattle.wiring.specs.Members.{Member}
 use Rattle.wiring.specs.Heard.{Group}
 use Rattle.wiring.specs.Group as wiring
@@ -86,8 +87,8 @@ ofLinks Restart = false
 ofLinks Cut = true
 ofLinks Mend = true
 
-abbrev pub placeAt : PlainGroup → ℕ → ℕ
-placeAt g a = placeOf (groupFrom g) a
+abbrev pub placeFrom : PlainGroup → ℕ → ℕ
+placeFrom g a = placeOf (groupFrom g) a
 
 -- the group g with the move k gets the number n, becomes d and prints w
 pub data PlainMoved : PlainGroup → PlainMove → ℕ → PlainGroup → List ℕ → Type 0 where
@@ -101,12 +102,12 @@ pub data PlainMoved : PlainGroup → PlainMove → ℕ → PlainGroup → List �
       {g : PlainGroup} {v : Verb} {a b : ℕ} → namesNobody v a b ≡ false → knows (groupFrom g) v a b ≡ false → PlainMoved g (entry v a b) 8 g []
   acts :
       {g : PlainGroup} {v : Verb} {a b n : ℕ} {m : PlainMember} {w : List ℕ} → ofLinks v ≡ false → namesNobody v a b ≡ false → knows (groupFrom g) v a b ≡ true →
-      ActCalls (getD (g .members) (placeAt g a) noMember) v b n m w →
-      PlainMoved g (entry v a b) n (record { frame = g .frame; members = set (g .members) (placeAt g a) m; whole = g .whole }) w
+      ActCalls (getD (g .members) (placeFrom g a) noMember) v b n m w →
+      PlainMoved g (entry v a b) n (record { frame = g .frame; members = set (g .members) (placeFrom g a) m; whole = g .whole }) w
   links :
       {g : PlainGroup} {v : Verb} {a b n : ℕ} → ofLinks v ≡ true → namesNobody v a b ≡ false → knows (groupFrom g) v a b ≡ true → n ≡ stateNumber (groupFrom g) v a b →
       PlainMoved g (entry v a b) n
-      (record { frame = g .frame; members = g .members; whole = choose (eqb n 0) (linksAfter v (linkOf (placeAt g a) (placeAt g b)) (g .whole)) (g .whole) })
+      (record { frame = g .frame; members = g .members; whole = choose (eqb n 0) (linksAfter v (linkOf (placeFrom g a) (placeFrom g b)) (g .whole)) (g .whole) })
       (choose (eqb n 0) (entryLines (groupFrom g) v a b) [])
 
 -- ---- lists of both, wired by the protocol
@@ -123,7 +124,7 @@ unfoldable pub Decodes : PlainMember → Type 0
 Decodes m = isVacant m ≡ false → isFront (m .front) ≡ true
 
 -- the group that was played is the one of the crate wiring: so each front is the channel's server,
--- each number the channel's, and the lines its lines (`Agrees`); and demand 3 holds of it
+-- each number the channel's, and the lines its lines (`Agrees`), and `GroupsSettle` speaks of it
 pub record IsPlayed (t : Table) (n : ℕ) (ks : List PlainMove) (ns : List ℕ) (d : PlainGroup) (w : List ℕ) : Type 0 where
   pub wired : Wired (newGroup t n) (map moveFrom ks)
   pub group : groupFrom d ≡ groupAfter (newGroup t n) (map moveFrom ks)
@@ -131,6 +132,10 @@ pub record IsPlayed (t : Table) (n : ℕ) (ks : List PlainMove) (ns : List ℕ) 
   pub numbers : ns ≡ groupNumbers (newGroup t n) (map moveFrom ks)
   pub lines : w ≡ groupLines (newGroup t n) (map moveFrom ks)
   pub agrees : Agrees (fresh t n) (newGroup t n) (map moveFrom ks)
+  -- what `playout_front_begin` would get next from any of them
+  pub begins :
+      (i k : ℕ) (q : PlainFront) → isVacant (getD (d .members) i noMember) ≡ false → Begins (getD (d .members) i noMember .front) k q →
+      k ≡ clockNumber d
 
 -- for every table and period that are not refused, and every list of frames and entries
 abbrev pub PlainGroupsPlay : Type 0

@@ -1,3 +1,3 @@
 pub mod Calls
 pub mod Group
-pub mod Heard
+pub mod Rules

@@ -251,10 +251,10 @@ quiet-attending t Backup x a = absurd (clash refl a)
 quiet-attending t Prospect x a = absurd (clash refl a)
 quiet-attending t Primary x a = absurd (clash refl a)
 
-abbrev Rests : Front → Type 0
+abbrev pub Rests : Front → Type 0
 Rests f = isActive (f .server .role) ≡ false
 
-rests-one : (f : Front) (h : Heartbeat) → Rests f → (fronts.hearing f h .front ≡ f) × (fronts.hearing f h .answer .event ≡ Nothing)
+pub rests-one : (f : Front) (h : Heartbeat) → Rests f → (fronts.hearing f h .front ≡ f) × (fronts.hearing f h .answer .event ≡ Nothing)
 unfolding after
 rests-one f h a =
     let s = f .server in

@@ -1,4 +1,5 @@
--- What is to be heard, sorted by `playout_higher`, and the number of the rules for plain structs.
+-- The number of the rules, for servers that hold plain structs; and the order of hearing, made by
+-- `playout_higher`.
 use mathlib.Core.Bool.{true, false}
 use mathlib.Core.List.{List, [], _∷_, map}
 use mathlib.Core.Path.{_≡_}
