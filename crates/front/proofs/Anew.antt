@@ -126,7 +126,7 @@ held true n = n
 held false n = 0
 
 -- its timers in the role that has them, and nothing that it sent
-seen : Server → Server
+unfoldable pub seen : Server → Server
 seen s =
     record {
       identity = s .identity;
@@ -264,7 +264,7 @@ module _ (t : ℕ) (p : Period) where
 
 -- ---- what is looked at of a front
 
-abbrev seenFront : Front → Front
+abbrev pub seenFront : Front → Front
 seenFront f = withServer (seen (f .server)) f
 
 begun-looks : (d : Bool) (f : Front) → seenFront (choose d (risen (seenFront f)) (seenFront f)) ≡ seenFront (choose d (risen f) f)
@@ -309,10 +309,21 @@ moved-looks f [] = ap (λ (s : Server). withServer s f) (seen-twice (f .server .
 moved-looks f (x ∷ xs) =
     sym (moved-looks (stepped (seenFront f) x) xs) ∙ ap (λ (g : Front). seenFront (moved g xs)) (stepped-looks f x) ∙ moved-looks (stepped f x) xs
 
+-- two fronts of which the same is seen answer the same, and go on so
+pub same-answer : (f g : Front) (x : Step) → seenFront f ≡ seenFront g → answered f x ≡ answered g x
+same-answer f g x e = sym (answered-looks f x) ∙ ap (λ (k : Front). answered k x) e ∙ answered-looks g x
+
+pub same-step : (f g : Front) (x : Step) → seenFront f ≡ seenFront g → seenFront (stepped f x) ≡ seenFront (stepped g x)
+same-step f g x e = sym (stepped-looks f x) ∙ ap (λ (k : Front). seenFront (stepped k x)) e ∙ stepped-looks g x
+
+pub same-risen : (f g : Front) → seenFront f ≡ seenFront g → seenFront (risen f) ≡ seenFront (risen g)
+unfolding choose
+same-risen f g e = sym (begun-looks true f) ∙ ap (λ (k : Front). seenFront (risen k)) e ∙ begun-looks true g
+
 -- ---- a front made anew
 
 -- a restart that is accepted
-restarts : (b : ℕ) (s : Server) → verbAnswer Restart b s .number ≡ 0 → verbHappens Restart b (verbAnswer Restart b s) ≡ ToIdle
+pub restarts : (b : ℕ) (s : Server) → verbAnswer Restart b s .number ≡ 0 → verbHappens Restart b (verbAnswer Restart b s) ≡ ToIdle
 unfolding verbAnswer verbHappens enters entering choose
 restarts b s = go (eqb (s .identity) 0 || false) (inRoleOf (s .role) Down)
   where

@@ -57,10 +57,10 @@ takeFront i p n = choose (not (eqb i 0) && (leb leastPeriod n && leb n greatestP
 
 -- ---- its steps: "The playout server itself holds one server's timers and moves them on in place
 -- each frame, as a thin front over the step above."
--- Of each: the front f before it, its answer r, and the front f′ after it Left free: the order of
+-- Of each: the front f before it, its answer r, and the front f′ after it. Left free: the order of
 -- the steps, which is the caller's. A frame of document 01 is `begin`, a `hear` for each heartbeat,
--- `tick`, then verbs An event answered says what to send: `ToProspectBeat` and `Beat` "a plain
--- beat", `ToProspectReveal` "a reveal", `Passed b` "a heartbeat with BS = b"; others nothing
+-- `tick`, then verbs. An event that is answered says what to send: `ToProspectBeat` and `Beat` "a
+-- plain beat", `ToProspectReveal` "a reveal", `Passed b` "a heartbeat with BS = b"; others nothing
 
 abbrev pub withServer : Server → Front → Front
 withServer s f = record { server = s; frame = f .frame; period = f .period }
@@ -107,8 +107,8 @@ pub record FrontTicks (f : Front) (r : TimedNow) (f′ : Front) : Type 0 where
 abbrev pub happens : Verb → ℕ → Front → Event
 happens v b f = verbHappens v b (verbAnswer v b (f .server))
 
--- a verb in the present frame, by "The table of roles against verbs" Left free, since one server
--- knows no table: 8 for a second identity "not in the table" Left free, since it holds no links:
+-- a verb in the present frame, by "The table of roles against verbs". Left free, since one server
+-- knows no table: 8 for a second identity "not in the table". Left free, since it holds no links:
 -- 15. `cut` and `mend` get 2 or 8 for their identities, else are accepted, and nothing happens
 pub record FrontActs (v : Verb) (b : ℕ) (f : Front) (r : ActedNow) (f′ : Front) : Type 0 where
   pub number : ofVerdict (r .verdict) ≡ verbAnswer v b (f .server) .number

@@ -1,12 +1,12 @@
 -- A frame and an entry by the calls of playout are those of the member that the struct stands for.
 -- Assumes nothing.
-use mathlib.Core.Bool.{Bool, true, false, not, _&&_, _||_}
+use mathlib.Core.Bool.{Bool, true, false, not, _||_}
 use mathlib.Core.Path.{_≡_, refl, sym, ap, ap₂, subst, _∙_}
 use mathlib.Core.Logic.{_⊎_, inl, inr}
 use mathlib.Core.List.{List, [], _∷_, _++_, map, append-nil, append-assoc, List·Memᴰ, List·Memᴰ·head, List·Memᴰ·tail}
 use Prim.Native.Nat.{ℕ, suc}
 use native.Mathlib.Omega.{arith}
-use borrow.Author.Tests.{eq-eqb, ne-eqb, eqb-true}
+use borrow.Author.Tests.{eq-eqb, ne-eqb}
 use lib.Dec.{eqb}
 use Rattle.lists.specs.Choice.{choose}
 use Rattle.lists.proofs.Cases.{tested, equal, chosen, other, and-true, and-right, refuted, on, clash, by-choice}
@@ -30,19 +30,18 @@ use Rattle.server.specs.Timers.{aged, silent, beating, rising, silentIn, beatin
 use Rattle.server.specs.Verbs.{verbAnswer}
 use Rattle.lines.specs.Lines.{linesOf}
 use Rattle.front.specs.declared.Front.{Front}
-use Rattle.front.specs.Front.{goesOn, risen, hearing, timing, happens, withServer}
+use Rattle.front.specs.Front.{goesOn, risen, hearing, timing, happens}
 use Rattle.group.proofs.Laws.{rank-after}
 use Rattle.settling.specs.Sending.{sends}
 use Rattle.plain.specs.declared.PlainFront.{PlainFront}
 use Rattle.plain.specs.declared.PlainHeartbeat.{PlainHeartbeat}
-use Rattle.plain.specs.Numbers.{isEvent, eventNumber, eventTo, eventOf, isVerb, verbOf, isPeriod, periodOf}
-use Rattle.plain.specs.Plain.{serverOf, isFront, frontOf, plainFront, isHeartbeat, heartbeatOf, plainHeartbeat}
+use Rattle.plain.specs.Numbers.{eventNumber, eventTo, eventOf, verbOf, isPeriod, periodOf}
+use Rattle.plain.specs.Plain.{isFront, frontOf, plainFront, isHeartbeat, heartbeatOf, plainHeartbeat}
 use Rattle.plain.proofs.Laws.{laws}
 use Rattle.playout.specs.declared.FrontHeard.{FrontHeard}
 use Rattle.playout.specs.declared.FrontTimed.{FrontTimed}
-use Rattle.playout.specs.declared.FrontActed.{FrontActed}
 use Rattle.playout.specs.declared.Sending.{Sending}
-use Rattle.playout.specs.Front.{ill, beginNumber, Begins, Hears, heardNumbers, notHeard, Ticks, timedNumbers, notTimed, afterVerb, actNumber, Acts, sendingOf, isSent, frontSends}
+use Rattle.playout.specs.Front.{beginNumber, Hears, heardNumbers, notHeard, Ticks, timedNumbers, notTimed, afterVerb, actNumber, sendingOf, isSent, frontSends}
 use Rattle.playout.specs.Writing.{frontLines}
 use Rattle.wiring.specs.Members.{Member, behind, eventLines, begins, hearsEach, hearsLines, ticks, ticksLines, frameOf, frameLines, acts, actsLines}
 use Rattle.wiring.proofs.Members.{Rests, rests-one}

@@ -1,18 +1,18 @@
 -- A group of plain fronts that is wired by the protocol is the group that it stands for, and so the
 -- channel. Assumes nothing.
-use mathlib.Core.Bool.{Bool, true, false, not, _&&_, _||_}
+use mathlib.Core.Bool.{Bool, true, false, not, _&&_}
 use mathlib.Core.Path.{_≡_, refl, sym, ap, ap₂, subst, _∙_}
-use mathlib.Core.Logic.{_⊎_, inl, inr}
+use mathlib.Core.Logic.{inl, inr}
 use mathlib.Core.List.{List, [], _∷_, _++_, map, List·Memᴰ, List·Memᴰ·head, List·Memᴰ·tail, List·Memᴰ·cases-cons}
 use Prim.Native.Nat.{ℕ, zero, suc, _+_, _*_, _<_}
 use native.Mathlib.Omega.{arith}
 use borrow.Author.Tests.{eq-eqb, ne-eqb, eqb-true, eqb-false, ltb-true}
-use lib.Dec.{ltb, eqb}
+use lib.Dec.{eqb}
 use lib.ListN.{length, getD, set, replicate, List·getD-map}
 use lib.Seq.{set-getD}
 use Rattle.lists.specs.Choice.{choose}
 use Rattle.lists.specs.Lists.{mapFrom, indexWhere}
-use Rattle.lists.proofs.Cases.{tested, equal, chosen, other, and-true, fst-true, snd-true, or-false, refuted, on, clash, length-mapped}
+use Rattle.lists.proofs.Cases.{tested, equal, chosen, other, and-true, fst-true, snd-true, or-false, on, clash, length-mapped}
 use Rattle.timecode.specs.Read.{inDay}
 use Rattle.heartbeat.specs.declared.Heartbeat.{Heartbeat}
 use Rattle.roles.specs.Roles.{isActive}
@@ -35,21 +35,21 @@ use Rattle.reached.proofs.Reached.{sound-call}
 use Rattle.plain.specs.declared.PlainFront.{PlainFront}
 use Rattle.plain.specs.declared.PlainHeartbeat.{PlainHeartbeat}
 use Rattle.plain.specs.Numbers.{isPeriod, periodOf}
-use Rattle.plain.specs.Plain.{isFront, frontOf, plainFront, isHeartbeat, heartbeatOf}
+use Rattle.plain.specs.Plain.{isFront, frontOf, plainFront, heartbeatOf}
 use Rattle.plain.proofs.Laws.{laws}
 use Rattle.playout.specs.declared.FrontMade.{FrontMade}
 use Rattle.playout.specs.Front.{frontMade, Begins}
 use Rattle.wiring.specs.Members.{Member, nobody, identityOf, acts, actsLines}
 use Rattle.wiring.specs.Heard as heard
-use Rattle.wiring.specs.Heard.{Group, memberAt, Heard}
+use Rattle.wiring.specs.Heard.{Group, memberAt}
 use Rattle.wiring.specs.Group as wiring
-use Rattle.wiring.specs.Group.{newMember, newGroup, turn, framed, linesEach, placeIn, placeOf, isIn, knows, ownNumber, stateNumber, entryNumber, entered, entryLines, Move, moveNumber, movesTo, moveLines, moved, groupAfter, groupNumbers, groupLines, MustHear, WiredIn, Wired}
+use Rattle.wiring.specs.Group.{newMember, newGroup, turn, framed, linesEach, placeIn, placeOf, isIn, knows, ownNumber, stateNumber, entryNumber, entered, entryLines, moveNumber, movesTo, moveLines, moved, groupAfter, groupNumbers, groupLines, MustHear, WiredIn, Wired}
 use Rattle.wiring.specs.Same.{memberOf, groupOf, callOf}
 use Rattle.wiring.proofs.Inboxes.{member-at, taken}
 use Rattle.wiring.proofs.Moves.{moved-is, new-group, new-agrees}
-use Rattle.plainwiring.specs.Calls.{PlainMember, noMember, FrameCalls, ActCalls}
+use Rattle.plainwiring.specs.Calls.{PlainMember, noMember, ActCalls}
 use Rattle.plainwiring.specs.Group as plain
-use Rattle.plainwiring.specs.Group.{PlainGroup, memberFrom, groupFrom, isVacant, newPlainMember, newPlainGroup, TurnCalls, vacant, seated, clockNumber, PlainMove, frame, entry, moveFrom, ofLinks, placeFrom, PlainMoved, turns, names, misses, links, PlainPlays, Decodes, IsPlayed, PlainGroupsPlay}
+use Rattle.plainwiring.specs.Group.{PlainGroup, memberFrom, groupFrom, isVacant, newPlainMember, newPlainGroup, TurnCalls, vacant, seated, clockNumber, PlainMove, frame, entry, moveFrom, ofLinks, placeFrom, PlainMoved, turns, names, misses, links, PlainPlays, Decodes, PlainGroupsPlay}
 use Rattle.plainwiring.proofs.Calls.{MayHear, begin-number, framed-as, stays-as, acted-as}
 
 -- ---- members

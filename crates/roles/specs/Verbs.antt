@@ -17,8 +17,7 @@ use Rattle.roles.specs.declared.Allowed.the-variants.{To, Refused}
 use Rattle.roles.specs.Roles.{roleNumber, inRoleOf}
 
 -- a verb that takes a server from the role a to the role b; "12. Server down (.. the acting server
--- only)", "14. The role does
--- not allow the verb."
+-- only)", "14. The role does not allow the verb."
 unfoldable pub from : Role → Role → Role → Answer
 from a b r = choose (inRoleOf r Down) (refused 12) (choose (inRoleOf r a) (accepted (roleNumber b ∷ [])) (refused 14))
 

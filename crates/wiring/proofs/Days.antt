@@ -1,5 +1,5 @@
 -- Whatever a group prints that is wired by the protocol is the day's sheet. Assumes nothing.
-use mathlib.Core.Bool.{Bool, true, false}
+use mathlib.Core.Bool.{true, false}
 use mathlib.Core.Path.{_≡_, refl, sym, ap, ap₂, subst, _∙_}
 use mathlib.Core.List.{List, [], _∷_, _++_}
 use Prim.Native.Nat.{ℕ, zero, suc, _+_, _-_, _≤_}
@@ -9,7 +9,6 @@ use lib.Dec.{ltb, leb, eqb}
 use lib.ListN.{length}
 use Rattle.lists.specs.Choice.{choose}
 use Rattle.lists.proofs.Cases.{tested, chosen, other, on, clash}
-use Rattle.heartbeat.specs.declared.Heartbeat.{Heartbeat}
 use Rattle.roles.specs.declared.Verb.{Verb}
 use Rattle.server.specs.declared.Server.{Server}
 use Rattle.lines.specs.Lines.{line, refusedWord}
@@ -24,7 +23,7 @@ use Rattle.group.specs.Calls.{callChannel}
 use Rattle.group.proofs.Made.{to-table, table-empty, same-servers, table-opened}
 use Rattle.day.specs.Read.{DayLine, wrong, period, server, entry, end, lineRead}
 use Rattle.day.specs.Day as day
-use Rattle.day.specs.Day.{Day, atPeriod, atServers, atEntries, atClose, Effect, stop, go, lastLine, effectOf, lineEffect, addEffect, entryEffect, endEffect, callEffect, opening}
+use Rattle.day.specs.Day.{Day, atServers, atEntries, atClose, Effect, stop, go, lastLine, effectOf, lineEffect, addEffect, entryEffect, endEffect, callEffect, opening}
 use Rattle.day.specs.Sheet.{header, inputRefusal, sheetFrom, sheet}
 use Rattle.reached.proofs.Sound.{Sound, sound-advanced}
 use Rattle.reached.proofs.Made.{sound-fresh}
@@ -33,7 +32,7 @@ use Rattle.wiring.specs.Heard.{Group, Heard}
 use Rattle.wiring.specs.Group as group
 use Rattle.wiring.specs.Group.{newGroup, framed, linesEach, knows, moved, MustHear}
 use Rattle.wiring.specs.Same.{groupOf, callOf}
-use Rattle.wiring.specs.Days.{Plays, stays, plays, stopsIn, stopsBeyond, lineStops, entryPrints, closed, Prints, unended, faults, stops, early, enters, endsEarly, ends, isEntry, AddsAll, none, next, DayOf, OneSheetOfADay}
+use Rattle.wiring.specs.Days.{Plays, stays, plays, stopsIn, stopsBeyond, lineStops, entryPrints, closed, Prints, unended, faults, stops, early, enters, endsEarly, ends, isEntry, AddsAll, none, next, OneSheetOfADay}
 use Rattle.wiring.proofs.Frames.{framed-is, frame-lines}
 use Rattle.wiring.proofs.Entries.{knows-is, entry-number, entry-lines}
 use Rattle.wiring.proofs.Moves.{moved-is, exact, new-group}

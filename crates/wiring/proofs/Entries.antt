@@ -1,8 +1,8 @@
 -- An entry of the group is that of the channel. Assumes nothing.
 use mathlib.Core.Bool.{Bool, true, false, not, _&&_, _||_}
-use mathlib.Core.Path.{_≡_, refl, sym, ap, ap₂, subst, _∙_}
+use mathlib.Core.Path.{_≡_, refl, sym, ap, ap₂, _∙_}
 use mathlib.Core.List.{List, [], _∷_, _++_, map}
-use Prim.Native.Nat.{ℕ, zero, suc, _<_}
+use Prim.Native.Nat.{ℕ, zero, suc}
 use borrow.Author.Tests.{eq-eqb, ne-eqb, eqb-true}
 use lib.Dec.{eqb, ltb}
 use lib.ListN.{getD, set}
@@ -10,15 +10,14 @@ use Rattle.lists.specs.Choice.{choose}
 use Rattle.lists.specs.Lists.{indexWhere}
 use Rattle.lists.proofs.Cases.{tested, equal, chosen, other, same-choice, snd-true, on, clash}
 use Rattle.refusal.specs.Answer.{Answer, refused}
-use Rattle.heartbeat.specs.declared.Heartbeat.{Heartbeat}
 use Rattle.heartbeat.specs.declared.Rank.{Rank}
 use Rattle.roles.specs.declared.Event.{Event}
 use Rattle.roles.specs.declared.Event.the-variants.{Nothing}
 use Rattle.roles.specs.declared.Verb.{Verb}
 use Rattle.roles.specs.declared.Verb.the-variants.{Start, Ready, Unready, Pass, Crash, Restart, Cut, Mend}
 use Rattle.server.specs.declared.Server.{Server}
-use Rattle.server.specs.Server.{absent, rankOf, sentBy, after}
-use Rattle.roles.specs.Verbs.{paired, enters, verbEvent, verbHappens}
+use Rattle.server.specs.Server.{absent, after}
+use Rattle.roles.specs.Verbs.{paired, verbEvent, verbHappens}
 use Rattle.server.specs.Verbs.{verbAnswer}
 use Rattle.roles.specs.Words.{said}
 use Rattle.lines.specs.Lines.{linesOf}
@@ -28,15 +27,14 @@ use Rattle.group.specs.Table as table
 use Rattle.group.specs.Table.{isEmpty, named}
 use Rattle.group.specs.Hearing.{place, whole, linkOf}
 use Rattle.group.specs.Verbs as verbs
-use Rattle.group.specs.Verbs.{namesNobody, known, stateRefusal, verbRefusal, happens, linksAfter, verbSaid, did, verbOutcome}
+use Rattle.group.specs.Verbs.{namesNobody, known, stateRefusal, verbRefusal, happens, linksAfter, did, verbOutcome}
 use Rattle.group.proofs.Laws.{rank-after}
 use Rattle.reached.proofs.Reached.{absent-still}
 use Rattle.reached.proofs.Sound.{Sound}
-use Rattle.settling.specs.Sending.{Appends}
 use Rattle.settling.proofs.Sending.{in-order}
-use Rattle.wiring.specs.Members.{Member, nobody, identityOf, acts, actsLines}
-use Rattle.wiring.specs.Heard.{Group, memberAt}
-use Rattle.wiring.specs.Group.{placeIn, placeOf, isIn, knows, stateNumber, entryNumber, membersThen, entered, entryLines}
+use Rattle.wiring.specs.Members.{Member, nobody, acts, actsLines}
+use Rattle.wiring.specs.Heard.{memberAt}
+use Rattle.wiring.specs.Group.{placeIn, placeOf, knows, stateNumber, entryNumber, membersThen, entered, entryLines}
 use Rattle.wiring.specs.Same.{memberOf, groupOf}
 use Rattle.wiring.proofs.Inboxes.{member-at, identity-of}
 use Rattle.wiring.proofs.Members.{holds-behind}

@@ -20,9 +20,8 @@ use Rattle.server.specs.declared.Server.{Server}
 use Rattle.server.specs.Server.{absent, cleared, mostBeats, oneMore, plainOf, revealOf, passOf, sentBy, after}
 use Rattle.server.specs.Hearing.{hears, attending, heard, heardAll}
 use Rattle.server.specs.Timers.{afterSilent, afterBeating, afterRising, timed}
-use Rattle.group.specs.declared.Table.{Table}
 use Rattle.group.specs.declared.State.{State}
-use Rattle.group.specs.Table.{isEmpty, anew, freshRefusal, fresh}
+use Rattle.group.specs.Table.{isEmpty, anew, fresh}
 use Rattle.group.specs.Hearing.{place, sentByAll, senders, inbox}
 use Rattle.group.specs.Frame.{hearing, turned, advanced}
 use Rattle.group.specs.Advance.{advancedBy}
@@ -35,8 +34,7 @@ use Rattle.reached.proofs.Reached.{handed, sound-after}
 use Rattle.reached.proofs.Few.{few-senders}
 use Rattle.wiring.specs.Members.{Member}
 use Rattle.wiring.specs.Heard.{Group, memberAt, Comes, keep, sorted}
-use Rattle.wiring.specs.Group.{newGroup, Move, groupAfter, Wired}
-use Rattle.wiring.specs.Same.{groupOf, callsOf, mostSent, FewAreSent, mostHeard, FewAreHeard}
+use Rattle.wiring.specs.Same.{callsOf, mostSent, FewAreSent, mostHeard, FewAreHeard}
 use Rattle.wiring.proofs.Inboxes.{member-at, heard-inbox}
 use Rattle.wiring.proofs.Keeping.{keep-before, keep-behind, sorted-heard}
 use Rattle.wiring.proofs.Moves.{new-agrees}

@@ -2,14 +2,14 @@
 use mathlib.Core.Bool.{true, false}
 use mathlib.Core.Path.{_≡_, refl, sym, ap, ap₂, subst, _∙_}
 use mathlib.Core.List.{List, [], _∷_, _++_, map}
-use Prim.Native.Nat.{ℕ, zero, suc, _+_, _<_}
+use Prim.Native.Nat.{ℕ, suc, _+_, _<_}
 use native.Mathlib.Omega.{arith}
-use borrow.Author.Tests.{eq-eqb, eqb-true}
+use borrow.Author.Tests.{eqb-true}
 use lib.Dec.{eqb}
 use lib.ListN.{length, getD}
 use Rattle.lists.specs.Choice.{choose}
 use Rattle.lists.specs.Lists.{mapFrom}
-use Rattle.lists.proofs.Cases.{tested, chosen, other, on, clash}
+use Rattle.lists.proofs.Cases.{tested, chosen, other, on}
 use Rattle.heartbeat.specs.declared.Heartbeat.{Heartbeat}
 use Rattle.server.specs.declared.Server.{Server}
 use Rattle.server.specs.Server.{absent}
@@ -21,7 +21,7 @@ use Rattle.group.specs.Frame.{turned, turnLines, turnsLines, advanced}
 use Rattle.roles.specs.Roles.{isActive}
 use Rattle.reached.proofs.Sound.{Sound}
 use Rattle.wiring.specs.Members.{Member, nobody, frameOf, frameLines}
-use Rattle.wiring.specs.Heard.{Group, isVacant, Heard}
+use Rattle.wiring.specs.Heard.{isVacant, Heard}
 use Rattle.wiring.specs.Group.{turn, framed, linesEach, MustHear}
 use Rattle.wiring.specs.Same.{memberOf, groupOf}
 use Rattle.wiring.proofs.Inboxes.{member-at, identity-of, not-vacant, heard-inbox}

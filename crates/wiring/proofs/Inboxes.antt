@@ -1,15 +1,14 @@
 -- What a member hears by the protocol is the inbox of its place in the channel. Assumes nothing.
 use mathlib.Core.Bool.{Bool, true, false, not, _&&_}
 use mathlib.Core.Path.{_≡_, refl, sym, ap, ap₂, subst, _∙_}
-use mathlib.Core.Logic.{_⊎_, inl, inr}
 use mathlib.Core.List.{List, [], _∷_, _++_, append-nil, List·Memᴰ, List·Memᴰ·head, List·Memᴰ·tail, List·Memᴰ·not-nil, List·Memᴰ·cases-cons, List·Memᴰ·append-cases}
 use Prim.Native.Nat.{ℕ, _<_}
-use borrow.Author.Tests.{eq-eqb, ne-eqb, eqb-true, eqb-false, not-true}
+use borrow.Author.Tests.{eq-eqb, ne-eqb}
 use lib.Dec.{eqb}
 use lib.ListN.{replicate, List·getD-map}
 use Rattle.lists.specs.Choice.{choose}
 use Rattle.lists.specs.Lists.{every}
-use Rattle.lists.proofs.Cases.{tested, equal, chosen, other, and-true, and-left, fst-true, snd-true, on, clash}
+use Rattle.lists.proofs.Cases.{tested, equal, chosen, other, and-true, fst-true, snd-true, on, clash}
 use Rattle.lists.proofs.Clear.{every-mem, every-of}
 use Rattle.heartbeat.specs.declared.Heartbeat.{Heartbeat}
 use Rattle.heartbeat.specs.declared.Rank.{Rank}
@@ -22,13 +21,13 @@ use Rattle.server.proofs.Sent.{sent-rank}
 use Rattle.group.specs.declared.State.{State}
 use Rattle.group.specs.Table.{isEmpty}
 use Rattle.group.specs.Hearing.{place, whole, hearsFrom, over, sentByAll, senders, inbox, noPlace}
-use Rattle.group.proofs.Inbox.{Descends, none, next, descends, is-heard, of-all, of-inbox}
+use Rattle.group.proofs.Inbox.{Descends, next, descends, is-heard, of-all, of-inbox}
 use Rattle.group.proofs.Senders.{all-heard}
 use Rattle.reached.proofs.Sound.{Sound, hears-apart}
 use Rattle.wiring.specs.Members.{Member, nobody, identityOf}
-use Rattle.wiring.specs.Heard.{memberAt, isVacant, gets, from, falling, Heard, Comes}
+use Rattle.wiring.specs.Heard.{memberAt, isVacant, from, falling, Heard, Comes}
 use Rattle.wiring.specs.Same.{memberOf, groupOf}
-use Rattle.wiring.proofs.Sorting.{from-own, from-skip, from-nil, from-append, from-none, to-from, one-order}
+use Rattle.wiring.proofs.Sorting.{from-own, from-nil, from-append, from-none, to-from, one-order}
 
 -- ---- the members of the group of a channel
 

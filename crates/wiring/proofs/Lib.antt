@@ -10,3 +10,4 @@ pub mod Settles
 pub mod Adding
 pub mod Days
 pub mod Playing
+pub mod Anew

@@ -1,12 +1,10 @@
 -- A frame of one member is that of its server in the channel. Assumes nothing.
-use mathlib.Core.Bool.{Bool, true, false}
-use mathlib.Core.Path.{_≡_, refl, sym, ap, ap₂, subst, _∙_}
+use mathlib.Core.Bool.{Bool, false}
+use mathlib.Core.Path.{_≡_, refl, sym, ap, ap₂, _∙_}
 use mathlib.Core.List.{List, [], _∷_, _++_, append-nil}
 use Prim.Native.Nat.{ℕ, _+_, _<_}
-use borrow.Author.Tests.{eq-eqb, ne-eqb}
 use lib.Dec.{eqb}
-use Rattle.lists.specs.Choice.{choose}
-use Rattle.lists.proofs.Cases.{tested, chosen, other, on, clash}
+use Rattle.lists.proofs.Cases.{other, clash}
 use Rattle.heartbeat.specs.declared.Heartbeat.{Heartbeat}
 use Rattle.heartbeat.specs.declared.Rank.{Rank}
 use Rattle.roles.specs.declared.Role.{Role}
@@ -15,9 +13,8 @@ use Rattle.roles.specs.declared.Event.{Event}
 use Rattle.roles.specs.declared.Event.the-variants.{Nothing, ToBackup, ToProspectBeat, ToProspectReveal, Lower, Beat, ToPrimary, ToSync, ToIdle, ToDown, Passed}
 use Rattle.periods.specs.declared.Period.{Period}
 use Rattle.server.specs.declared.Server.{Server}
-use Rattle.server.specs.declared.Timed.{Timed}
 use Rattle.server.specs.Server.{rankOf, cleared, sentBy, after}
-use Rattle.server.specs.Timers.{silent, beating, rising, silentIn, beatingIn, risingIn, aged, afterSilent, afterBeating, afterRising, timed}
+use Rattle.server.specs.Timers.{silent, beating, rising, silentIn, beatingIn, risingIn, afterSilent, afterBeating, afterRising, timed}
 use Rattle.roles.specs.Words.{said}
 use Rattle.server.specs.Hearing.{hears, hearsIn, attending, heard}
 use Rattle.lines.specs.Lines.{linesOf}

@@ -1,14 +1,14 @@
 -- A group of fronts that is wired by the protocol is the channel. Assumes nothing.
-use mathlib.Core.Bool.{Bool, true, false}
+use mathlib.Core.Bool.{true}
 use mathlib.Core.Path.{_≡_, refl, sym, ap, ap₂, subst, _∙_}
 use mathlib.Core.List.{List, [], _∷_, _++_, map}
-use Prim.Native.Nat.{ℕ, _+_, _*_, _≤_}
+use Prim.Native.Nat.{ℕ, _+_, _*_}
 use native.Mathlib.Omega.{arith}
-use borrow.Author.Tests.{eq-eqb, ne-eqb, le-leb, eqb-true}
-use lib.Dec.{eqb, leb}
+use borrow.Author.Tests.{eq-eqb, ne-eqb, le-leb}
+use lib.Dec.{eqb}
 use lib.ListN.{length, replicate}
 use Rattle.lists.specs.Choice.{choose}
-use Rattle.lists.proofs.Cases.{tested, equal, chosen, other, on, clash}
+use Rattle.lists.proofs.Cases.{tested, equal, chosen, other, on}
 use Rattle.timecode.specs.Read.{inDay}
 use Rattle.server.specs.declared.Server.{Server}
 use Rattle.server.specs.Server.{absent, sentBy}
@@ -16,14 +16,14 @@ use Rattle.group.specs.declared.Table.{Table}
 use Rattle.group.specs.declared.State.{State}
 use Rattle.group.specs.Table.{most, isEmpty, anew, freshRefusal, fresh}
 use Rattle.group.specs.Outcome.{Outcome, numberIn, channelIn}
-use Rattle.group.specs.Calls.{Call, outcomeOf, sliceOf, callNumber, callChannel, channelAfter, numbersOf}
+use Rattle.group.specs.Calls.{outcomeOf, callNumber, callChannel, channelAfter, numbersOf}
 use Rattle.group.specs.Laws.{callLines, linesAfter}
 use Rattle.reached.proofs.Sound.{Sound}
 use Rattle.reached.proofs.Made.{sound-fresh}
 use Rattle.reached.proofs.Reached.{sound-call}
 use Rattle.wiring.specs.Members.{Member, nobody}
 use Rattle.wiring.specs.Heard.{Group}
-use Rattle.wiring.specs.Group.{newMember, newGroup, Move, frame, entry, moveNumber, movesTo, moveLines, moved, groupAfter, groupNumbers, groupLines, WiredIn, Wired, none, next}
+use Rattle.wiring.specs.Group.{newMember, newGroup, Move, frame, entry, moveNumber, movesTo, moveLines, moved, groupAfter, groupNumbers, groupLines, WiredIn, Wired, next}
 use Rattle.wiring.specs.Same.{memberOf, groupOf, callOf, callsOf, Agrees, OneSheet}
 use Rattle.wiring.proofs.Frames.{framed-is, frame-lines}
 use Rattle.wiring.proofs.Entries.{entry-number, entered-is, entry-lines}

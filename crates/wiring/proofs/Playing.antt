@@ -1,8 +1,7 @@
 -- A group can play every day: each server hears what its place hears in the channel. Assumes nothing.
-use mathlib.Core.Bool.{true, false}
 use mathlib.Core.Path.{_≡_, refl, sym, ap, ap₂, subst, _∙_}
 use mathlib.Core.Logic.{_⊎_, inl, inr}
-use mathlib.Core.List.{List, [], _∷_, _++_}
+use mathlib.Core.List.{List, [], _∷_}
 use Prim.Native.Nat.{ℕ, zero, suc, _-_}
 use lib.Dec.{ltb, leb}
 use Rattle.lists.specs.Choice.{choose}
@@ -21,7 +20,7 @@ use Rattle.reached.proofs.Made.{sound-fresh}
 use Rattle.reached.proofs.Reached.{sound-by, sound-call}
 use Rattle.wiring.specs.Heard.{Group, Heard}
 use Rattle.wiring.specs.Group as group
-use Rattle.wiring.specs.Group.{framed, moved, MustHear}
+use Rattle.wiring.specs.Group.{MustHear}
 use Rattle.wiring.specs.Same.{groupOf, callOf}
 use Rattle.wiring.specs.Days.{Plays, stays, plays, stopsIn, stopsBeyond, lineStops, Prints, unended, faults, stops, early, enters, endsEarly, ends, CanPrint, DaysCanBePlayed}
 use Rattle.wiring.proofs.Inboxes.{inbox-heard}

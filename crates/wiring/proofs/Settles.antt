@@ -1,7 +1,7 @@
 -- Demand 3 of a group of fronts, from that of the channel. Assumes nothing.
-use mathlib.Core.Bool.{Bool, true, false, not, _&&_}
+use mathlib.Core.Bool.{Bool, true, false, not}
 use mathlib.Core.Path.{_≡_, refl, sym, ap, ap₂, subst, _∙_}
-use mathlib.Core.Logic.{_⊎_, inl, inr}
+use mathlib.Core.Logic.{inl, inr}
 use mathlib.Core.List.{List, [], _∷_}
 use Prim.Native.Nat.{ℕ, _+_, _<_, _≤_}
 use borrow.Author.Tests.{eqb-true}
@@ -16,10 +16,9 @@ use Rattle.roles.specs.declared.Role.{Role}
 use Rattle.roles.specs.declared.Role.the-variants.{Backup, Primary}
 use Rattle.roles.specs.Roles.{isActive, isBeating}
 use Rattle.server.specs.Server.{absent, rankOf}
-use Rattle.group.specs.declared.Table.{Table}
 use Rattle.group.specs.declared.State.{State}
-use Rattle.group.specs.Table.{isEmpty, freshRefusal, fresh}
-use Rattle.group.specs.Hearing.{place, over}
+use Rattle.group.specs.Table.{isEmpty, fresh}
+use Rattle.group.specs.Hearing.{place}
 use Rattle.group.specs.Frame.{advanced}
 use Rattle.group.specs.Calls.{callNumber, callChannel, channelAfter}
 use Rattle.group.specs.Links.{cutByCall, cutAfter}
@@ -32,9 +31,9 @@ use Rattle.settling.proofs.Demand.{settles}
 use Rattle.settling.proofs.Chains.{one-frame}
 use Rattle.wiring.specs.Members.{Member, nobody}
 use Rattle.wiring.specs.Heard.{Group, memberAt}
-use Rattle.wiring.specs.Group.{newGroup, Move, frame, entry, moveNumber, moved, groupAfter, Wired, none, next}
+use Rattle.wiring.specs.Group.{Move, frame, entry, moved, groupAfter, Wired, none, next}
 use Rattle.wiring.specs.Same.{groupOf, callOf, callsOf}
-use Rattle.wiring.specs.Settles.{roleAt, higherAt, cutByMove, cutAfterMoves, refusedIfEntry, entriesRefused, GroupLed, NoneBeating, HighestInGroup, GroupSettles, GroupsSettle}
+use Rattle.wiring.specs.Settles.{roleAt, cutByMove, cutAfterMoves, refusedIfEntry, entriesRefused, GroupLed, NoneBeating, HighestInGroup, GroupSettles, GroupsSettle}
 use Rattle.wiring.proofs.Inboxes.{member-at, not-vacant}
 use Rattle.wiring.proofs.Moves.{move-number, moved-is, agrees, new-group}
 

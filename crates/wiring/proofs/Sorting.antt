@@ -1,5 +1,5 @@
 -- Two lists of heartbeats that fall, and have the same of each sender, are one. Assumes nothing.
-use mathlib.Core.Bool.{true, false, not}
+use mathlib.Core.Bool.{true, not}
 use mathlib.Core.Path.{_≡_, refl, sym, ap, subst, _∙_}
 use mathlib.Core.Logic.{_⊎_, inl, inr}
 use mathlib.Core.List.{List, [], _∷_, _++_, List·Memᴰ, List·Memᴰ·head, List·Memᴰ·tail, List·Memᴰ·not-nil, List·Memᴰ·cases-cons}
@@ -7,7 +7,7 @@ use Prim.Native.Nat.{ℕ}
 use borrow.Author.Tests.{eq-eqb, ne-eqb, not-true}
 use lib.ListN.{getD}
 use Rattle.lists.specs.Lists.{every}
-use Rattle.lists.proofs.Cases.{equal, and-true, fst-true, snd-true, on, clash}
+use Rattle.lists.proofs.Cases.{equal, fst-true, snd-true, on, clash}
 use Rattle.lists.proofs.Clear.{every-mem}
 use Rattle.heartbeat.specs.declared.Heartbeat.{Heartbeat}
 use Rattle.heartbeat.specs.Rank.{higher}

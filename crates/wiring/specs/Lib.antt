@@ -4,4 +4,5 @@ pub mod Group
 pub mod Same
 pub mod Settles
 pub mod Days
+pub mod Anew
 pub mod Rules

@@ -1,7 +1,6 @@
 -- One server of a group, by the calls that docs/MAKERS.md names: what it holds, sends and prints.
 use mathlib.Core.List.{List, [], _∷_, _++_}
 use Prim.Native.Nat.{ℕ}
-use lib.Dec.{eqb}
 use Rattle.heartbeat.specs.declared.Heartbeat.{Heartbeat}
 use Rattle.roles.specs.declared.Event.{Event}
 use Rattle.roles.specs.declared.Verb.{Verb}

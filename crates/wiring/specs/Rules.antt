@@ -3,6 +3,7 @@ use mathlib.Core.Path.{_≡_}
 use Prim.Native.Nat.{ℕ}
 use Rattle.wiring.specs.Same.{OneSheet, ProtocolCanBeMet, SortedIsHeard, mostHeard, FewAreSent, FewAreHeard}
 use Rattle.wiring.specs.Settles.{GroupsSettle}
+use Rattle.wiring.specs.Anew.{NewFrontsGoOn}
 use Rattle.wiring.specs.Days.{OneSheetOfADay, DaysCanBePlayed}
 
 -- 1 for the rules of document 01; one more with every change of the rules that a sheet can show
@@ -15,6 +16,7 @@ pub record Rules (r : ℕ) : Type 0 where
   pub sheets : OneSheet
   pub days : OneSheetOfADay
   pub played : DaysCanBePlayed
+  pub anew : NewFrontsGoOn
   pub met : ProtocolCanBeMet
   pub sorted : SortedIsHeard
   pub settles : GroupsSettle
