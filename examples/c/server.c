@@ -6,10 +6,11 @@
  * At its start it prints the number of the rules that it plays by, `rules TAB NUMBER`, and an empty
  * line. Then it reads lines from standard input:
  *
- *     rules TAB NUMBER  the number of another server, before the first tick or entry. If it is this
- *                       server's, the answer is an empty line; else the two cannot play together,
- *                       and the program ends with status 1. A server that plays already goes on,
- *                       and tells it on standard error: the one that joins must stay out
+ *     rules TAB NUMBER  the number of another server. If it is this server's, the answer is an
+ *                       empty line. If it is another, or no number, the two cannot play together,
+ *                       and the program ends with status 1. A server that plays already, from its
+ *                       first tick or entry on, tells it on standard error, answers with an empty
+ *                       line and goes on: the one that joins must stay out
  *     a heartbeat       to be heard in the coming frame. Senders may come in any order; those of
  *                       one sender come in the order sent
  *     tick              the next frame: it begins, what came is heard, the timers run
@@ -19,9 +20,10 @@
  *
  * To tick and to each entry it answers with what happens, in its order: the lines of the sheet
  * about this server (three fields) and the heartbeats that it sends (four fields). Then comes an
- * empty line. An entry that no day may have (a pass to identity 0, or to itself) is told on standard
- * error, and its answer is the empty line alone. Any other line is told there too, changes nothing
- * and has no answer.
+ * empty line. An entry that no day may have (a pass to identity 0, or to itself) is told on
+ * standard error, and its answer is the empty line alone. Any other line is told there too, changes
+ * nothing and has no answer. So are heartbeats of this server itself, and those for a frame beyond
+ * PLAYOUT_HEARD: told there, and left out.
  *
  * In a product the lines that come in are datagrams, the lines with four fields are sent to all
  * others, one datagram a frame, and tick is the clock of the frame.
@@ -36,11 +38,22 @@
 /* A line has at most 64 bytes and its line feed. One byte more tells that it is too long. */
 enum { LINE_ROOM = 66 };
 
+/* A version is this many times the major, and the minor. */
+enum { MAJOR = 1000 };
+
 /* What is to be heard in the coming frame, from the highest sender to the lowest. */
 typedef struct {
     size_t count;
     playout_heartbeat heartbeats[PLAYOUT_HEARD];
 } inbox;
+
+/* All that is kept between frames. */
+typedef struct {
+    playout_front front;
+    inbox in;
+    /* 1 if the first tick or entry has come, else 0 */
+    int plays;
+} server;
 
 /* Ends the program where the library refuses what this program never gets wrong. */
 static void must(uint32_t number, const char *call)
@@ -201,7 +214,7 @@ static int is_rules(const uint8_t *line, size_t length)
 
 /* The rules of another server. Two servers whose numbers differ must not play together: this one
    ends, unless it plays already. */
-static void take_rules(const playout_front *front, const uint8_t *line, size_t length)
+static void take_rules(int plays, const uint8_t *line, size_t length)
 {
     char own[LINE_ROOM];
 
@@ -212,7 +225,7 @@ static void take_rules(const playout_front *front, const uint8_t *line, size_t l
         "server: another server plays by rules %.*s, this one by rules %" PRIu32
         ": build both with libraries of one number\n",
         (int)(length - 7), (const char *)line + 6, playout_rules());
-    if (front->frame == 0 && front->server.role == PLAYOUT_ROLE_IDLE)
+    if (!plays)
         exit(1);
 }
 
@@ -244,34 +257,36 @@ static const struct {
     {"restart\n", PLAYOUT_VERB_RESTART},
 };
 
-static void take_line(playout_front *front, inbox *in, const uint8_t *line, size_t length,
-    unsigned long at)
+static void take_line(server *own, const uint8_t *line, size_t length, unsigned long at)
 {
     long to = passed_to(line, length);
 
     if (is_rules(line, length)) {
-        take_rules(front, line, length);
+        take_rules(own->plays, line, length);
         end_answer();
         return;
     }
     if (is(line, length, "tick\n")) {
-        tick(front, in);
+        own->plays = 1;
+        tick(&own->front, &own->in);
         end_answer();
         return;
     }
     if (to >= 0) {
-        act(front, PLAYOUT_VERB_PASS, (uint16_t)to);
+        own->plays = 1;
+        act(&own->front, PLAYOUT_VERB_PASS, (uint16_t)to);
         end_answer();
         return;
     }
     for (size_t i = 0; i < sizeof verbs / sizeof verbs[0]; i++) {
         if (is(line, length, verbs[i].line)) {
-            act(front, verbs[i].verb, 0);
+            own->plays = 1;
+            act(&own->front, verbs[i].verb, 0);
             end_answer();
             return;
         }
     }
-    take_heartbeat(front, in, line, length, at);
+    take_heartbeat(&own->front, &own->in, line, length, at);
 }
 
 /* ---- the loop */
@@ -282,7 +297,7 @@ static int is_linked_well(void)
 {
     uint32_t version = playout_version();
 
-    return playout_rules() == PLAYOUT_RULES && version / 1000 == PLAYOUT_VERSION / 1000 &&
+    return playout_rules() == PLAYOUT_RULES && version / MAJOR == PLAYOUT_VERSION / MAJOR &&
         version >= PLAYOUT_VERSION;
 }
 
@@ -315,9 +330,8 @@ int main(int argc, char **argv)
         return 2;
     }
 
-    /* all that is kept between frames: the front, and what came for the next frame */
-    playout_front front = made.front;
-    static inbox in;
+    static server own;
+    own.front = made.front;
     uint8_t line[LINE_ROOM];
     size_t length;
     unsigned long at = 0;
@@ -325,6 +339,6 @@ int main(int argc, char **argv)
     printf("rules\t%" PRIu32 "\n", playout_rules());
     end_answer();
     while ((length = read_line(line)) > 0)
-        take_line(&front, &in, line, length, ++at);
+        take_line(&own, line, length, ++at);
     return 0;
 }

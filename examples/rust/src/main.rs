@@ -3,10 +3,10 @@
 //! At its start it prints the number of the rules that it plays by, `rules` and a number, and an
 //! empty line. Then it reads lines from standard input:
 //!
-//! - `rules` and a number, that of another server, before the first tick or entry. If it is this
-//!   server's, the answer is an empty line; else the two cannot play together, and the program ends
-//!   with status 1. A server that plays already goes on, and tells it on standard error: the one
-//!   that joins must stay out;
+//! - `rules` and a number, that of another server. If it is this server's, the answer is an empty
+//!   line. If it is another, or no number, the two cannot play together, and the program ends with
+//!   status 1. A server that plays already, from its first tick or entry on, tells it on standard
+//!   error, answers with an empty line and goes on: the one that joins must stay out;
 //! - a heartbeat, to be heard in the coming frame. Senders may come in any order; those of one
 //!   sender come in the order sent;
 //! - `tick`, the next frame: it begins, what came is heard, the timers run;
@@ -17,12 +17,13 @@
 //! about this server (three fields) and the heartbeats that it sends (four fields). Then comes an
 //! empty line. An entry that no day may have (a pass to identity 0, or to itself) is told on
 //! standard error, and its answer is the empty line alone. Any other line is told there too,
-//! changes nothing and has no answer.
+//! changes nothing and has no answer. So are heartbeats of this server itself, and those for a
+//! frame beyond `HEARD`: told there, and left out.
 
 #[allow(dead_code)]
 mod playout;
 
-use playout::{Front, Heartbeat, Written, ACCEPTED, HEARD, LINE_BYTES, ROLE_IDLE, TIME_PAST};
+use playout::{Front, Heartbeat, Written, ACCEPTED, HEARD, LINE_BYTES, TIME_PAST};
 use std::io::{self, BufRead, BufWriter, Read, Write};
 use std::process::ExitCode;
 
@@ -31,6 +32,8 @@ struct Server<W: Write> {
     front: Front,
     /// What is to be heard in the coming frame, from the highest sender to the lowest.
     inbox: Vec<Heartbeat>,
+    /// Whether the first tick or entry has come.
+    plays: bool,
     out: W,
 }
 
@@ -134,7 +137,7 @@ impl<W: Write> Server<W> {
             "another server plays by rules {theirs}, this one by rules {own}: \
              build both with libraries of one number"
         );
-        if self.front.frame == 0 && self.front.server.role == ROLE_IDLE {
+        if !self.plays {
             return Err(io::Error::other(differ));
         }
         eprintln!("server: {differ}");
@@ -150,8 +153,14 @@ impl<W: Write> Server<W> {
                 return Ok(());
             }
             Asked::Rules(theirs) => self.compare(&theirs)?,
-            Asked::Tick => self.tick()?,
-            Asked::Verb(verb, to) => self.act(verb, to)?,
+            Asked::Tick => {
+                self.plays = true;
+                self.tick()?;
+            }
+            Asked::Verb(verb, to) => {
+                self.plays = true;
+                self.act(verb, to)?;
+            }
         }
         self.out.write_all(b"\n")?;
         self.out.flush()
@@ -226,7 +235,7 @@ fn read_line(input: &mut impl BufRead, line: &mut Vec<u8>) -> io::Result<()> {
 fn run(front: Front) -> io::Result<()> {
     let mut input = io::stdin().lock();
     let out = BufWriter::new(io::stdout().lock());
-    let mut server = Server { front, inbox: Vec::new(), out };
+    let mut server = Server { front, inbox: Vec::new(), plays: false, out };
     let mut line = Vec::new();
     write!(server.out, "rules\t{}\n\n", playout::rules())?;
     server.out.flush()?;

@@ -7,12 +7,15 @@ use std::mem::size_of;
 /// What this file is written for; `rules` and `version` say what is linked.
 pub const RULES: u32 = 1;
 pub const VERSION: u32 = 1000;
+/// A version is this many times the major, and the minor.
+pub const MAJOR: u32 = 1000;
 
 /// Numbers of the header: refusals, roles, verbs, limits.
 pub const ACCEPTED: u32 = 0;
 /// The first of those from the state, which have a line of the sheet.
 pub const TIME_PAST: u32 = 11;
-pub const ROLE_IDLE: u8 = 1;
+/// The role of the server that is on air.
+pub const ROLE_PRIMARY: u8 = 5;
 pub const VERB_START: u32 = 0;
 pub const VERB_READY: u32 = 1;
 pub const VERB_UNREADY: u32 = 2;
@@ -182,7 +185,7 @@ pub fn version() -> u32 {
 /// Whether the library that is linked is one that this file is written for: the same rules and the
 /// same major version, and no lower minor.
 pub fn is_linked_well() -> bool {
-    rules() == RULES && version() / 1000 == VERSION / 1000 && version() >= VERSION
+    rules() == RULES && version() / MAJOR == VERSION / MAJOR && version() >= VERSION
 }
 
 impl Front {
