@@ -34,7 +34,7 @@ module _ (c : State) (sound : Sound c) (hear : ℕ → List Heartbeat) (wired : 
   abbrev Turns : ℕ → Server → Type 0
   Turns i s = (turn hear i (memberOf c s) ≡ memberOf (advanced c) (turned c now i s)) × (choose (isVacant (memberOf c s)) [] (frameLines (memberOf c s) (hear i)) ≡ turnLines c now i s)
 
-  -- whatever a server hears that rests, and what it must where it does not: the frame is that of its
+  -- whatever a server that rests hears, and what one must that does not: the frame is that of its
   -- inbox
   as-inbox : (i : ℕ) → i < 16 → isEmpty (place c i) ≡ false → let m = memberOf c (place c i) in (frameOf m (hear i) ≡ frameOf m (inbox c i)) × (frameLines m (hear i) ≡ frameLines m (inbox c i))
   as-inbox i l e =

@@ -1,4 +1,5 @@
--- A group can play every day: each server hears what its place hears in the channel. Assumes nothing.
+-- A group can play every day: each server hears what its place hears in the channel. Assumes
+-- nothing.
 use mathlib.Core.Path.{_≡_, refl, sym, ap, ap₂, subst, _∙_}
 use mathlib.Core.Logic.{_⊎_, inl, inr}
 use mathlib.Core.List.{List, [], _∷_}

@@ -53,8 +53,8 @@ entriesRefused g (k ∷ ks) = refusedIfEntry g k && entriesRefused (moved g k) k
 -- ---- settled
 
 -- "exactly one server is primary, .. and each other server that was in one of those roles after the
--- list is in backup": g is the group after the list, d the one later, h the place of the one server.
--- Each place has the same server in both
+-- list is in backup": g is the group after the list, d the one later, h the place of the one
+-- server. Each place has the same server in both
 pub record GroupLed (g : Group) (h : ℕ) (d : Group) : Type 0 where
   pub primary : roleAt d h ≡ Primary
   pub alone : (i : ℕ) → i < most → roleAt d i ≡ Primary → i ≡ h
