@@ -57,7 +57,7 @@ period-in n = by-choice (λ (q : Period). isPeriod (q .frames) ≡ true) (isPeri
 back : (q : PlainFront) (f : Front) → q ≡ plainFront f → isPeriod (f .period .frames) ≡ true → (isFront q ≡ true) × (frontOf q ≡ f)
 back q f e i = let b = laws .back .front f i in (ap isFront e ∙ b .decodes, ap frontOf e ∙ b .same)
 
-there-and-back : (l : List Heartbeat) → map heartbeatOf (map plainHeartbeat l) ≡ l
+pub there-and-back : (l : List Heartbeat) → map heartbeatOf (map plainHeartbeat l) ≡ l
 there-and-back [] = refl
 there-and-back (h ∷ l) = ap (λ (r : List Heartbeat). h ∷ r) (there-and-back l)
 

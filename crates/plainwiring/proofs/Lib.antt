@@ -1,3 +1,4 @@
 pub mod Calls
 pub mod Group
 pub mod Sorting
+pub mod Playing

@@ -19,7 +19,7 @@ use Rattle.plain.specs.declared.PlainHeartbeat.{PlainHeartbeat}
 use Rattle.plain.specs.Plain.{isFront, frontOf, heartbeatOf}
 use Rattle.playout.specs.Front.{frontMade, Begins}
 use Rattle.wiring.specs.Members.{Member}
-use Rattle.wiring.specs.Heard.{Group}
+use Rattle.wiring.specs.Heard.{Group, Heard}
 use Rattle.wiring.specs.Group as wiring
 use Rattle.wiring.specs.Group.{newGroup, Move, placeOf, knows, stateNumber, entryLines, groupAfter, groupNumbers, groupLines, WiredIn, Wired}
 use Rattle.wiring.specs.Same.{Agrees}
@@ -142,3 +142,25 @@ abbrev pub PlainGroupsPlay : Type 0
 PlainGroupsPlay =
     (t : Table) (n : ℕ) (ks : List PlainMove) (ns : List ℕ) (d : PlainGroup) (w : List ℕ) → freshRefusal t n ≡ 0 →
     PlainPlays (newPlainGroup t n) ks ns d w → IsPlayed t n ks ns d w
+
+-- ---- that it can be done
+
+-- every move has an outcome
+pub record CanMove (g : PlainGroup) (k : PlainMove) : Type 0 where
+  pub number : ℕ
+  pub after : PlainGroup
+  pub lines : List ℕ
+  pub moves : PlainMoved g k number after lines
+
+abbrev pub MovesAlwaysGo : Type 0
+MovesAlwaysGo = (g : PlainGroup) (k : PlainMove) → CanMove g k
+
+-- and in every group that was played so, something can be heard as it must be
+pub record PlainCanHear (g : PlainGroup) (j : ℕ) : Type 0 where
+  pub heartbeats : List PlainHeartbeat
+  pub heard : Heard (groupFrom g) j (map heartbeatOf heartbeats)
+
+abbrev pub PlainProtocolCanBeMet : Type 0
+PlainProtocolCanBeMet =
+    (t : Table) (n : ℕ) (ks : List PlainMove) (ns : List ℕ) (d : PlainGroup) (w : List ℕ) → freshRefusal t n ≡ 0 →
+    PlainPlays (newPlainGroup t n) ks ns d w → (j : ℕ) → PlainCanHear d j

@@ -10,7 +10,7 @@ use Rattle.plain.specs.Plain.{heartbeatOf}
 use Rattle.playout.specs.Writing.{plainHigher}
 use Rattle.wiring.specs.Heard.{sorted}
 use Rattle.wiring.specs.Rules.{rulesNumber}
-use Rattle.plainwiring.specs.Group.{PlainGroupsPlay}
+use Rattle.plainwiring.specs.Group.{PlainGroupsPlay, MovesAlwaysGo, PlainProtocolCanBeMet}
 
 -- h put before the first that is lower, by `playout_higher`
 unfoldable pub keepPlain : PlainHeartbeat → List PlainHeartbeat → List PlainHeartbeat
@@ -31,4 +31,6 @@ PlainSortIsTheSort = (hs : List PlainHeartbeat) → map heartbeatOf (sortedPlain
 pub record PlainRules (r : ℕ) : Type 0 where
   pub number : r ≡ rulesNumber
   pub groups : PlainGroupsPlay
+  pub go : MovesAlwaysGo
+  pub met : PlainProtocolCanBeMet
   pub sorted : PlainSortIsTheSort
