@@ -162,5 +162,5 @@ pub record PlainCanHear (g : PlainGroup) (j : ℕ) : Type 0 where
 
 abbrev pub PlainProtocolCanBeMet : Type 0
 PlainProtocolCanBeMet =
-    (t : Table) (n : ℕ) (ks : List PlainMove) (ns : List ℕ) (d : PlainGroup) (w : List ℕ) → freshRefusal t n ≡ 0 →
-    PlainPlays (newPlainGroup t n) ks ns d w → (j : ℕ) → PlainCanHear d j
+    (t : Table) (n : ℕ) (ks : List PlainMove) (ns : List ℕ) (d : PlainGroup) (w : List ℕ) →
+    freshRefusal t n ≡ 0 → PlainPlays (newPlainGroup t n) ks ns d w → (j : ℕ) → PlainCanHear d j
