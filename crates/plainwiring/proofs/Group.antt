@@ -32,6 +32,8 @@ use Rattle.group.specs.Calls.{callChannel}
 use Rattle.reached.proofs.Sound.{Sound}
 use Rattle.reached.proofs.Made.{sound-fresh}
 use Rattle.reached.proofs.Reached.{sound-call}
+use Rattle.settling.specs.Demand.{settlingTime}
+use Rattle.wiring.specs.Settles.{roleAt, GroupSettles, GroupsSettle}
 use Rattle.plain.specs.declared.PlainFront.{PlainFront}
 use Rattle.plain.specs.declared.PlainHeartbeat.{PlainHeartbeat}
 use Rattle.plain.specs.Numbers.{isPeriod, periodOf}
@@ -44,18 +46,18 @@ use Rattle.wiring.specs.Heard as heard
 use Rattle.wiring.specs.Heard.{Group, memberAt}
 use Rattle.wiring.specs.Group as wiring
 use Rattle.wiring.specs.Group.{newMember, newGroup, turn, framed, linesEach, placeIn, placeOf, isIn, knows, ownNumber, stateNumber, entryNumber, entered, entryLines, moveNumber, movesTo, moveLines, moved, groupAfter, groupNumbers, groupLines, MustHear, WiredIn, Wired}
-use Rattle.wiring.specs.Same.{memberOf, groupOf, callOf}
+use Rattle.wiring.specs.Same.{memberOf, groupOf, callOf, OneSheet}
 use Rattle.wiring.proofs.Inboxes.{member-at, taken}
-use Rattle.wiring.proofs.Moves.{moved-is, new-group, new-agrees}
+use Rattle.wiring.proofs.Moves.{moved-is, new-group}
 use Rattle.plainwiring.specs.Calls.{PlainMember, noMember, ActCalls}
 use Rattle.plainwiring.specs.Group as plain
-use Rattle.plainwiring.specs.Group.{PlainGroup, memberFrom, groupFrom, isVacant, newPlainMember, newPlainGroup, TurnCalls, vacant, seated, clockNumber, PlainMove, frame, entry, moveFrom, ofLinks, placeFrom, PlainMoved, turns, names, misses, links, PlainPlays, Decodes, PlainGroupsPlay}
+use Rattle.plainwiring.specs.Group.{PlainGroup, memberFrom, groupFrom, isVacant, newPlainMember, newPlainGroup, TurnCalls, vacant, seated, clockNumber, PlainMove, frame, entry, moveFrom, ofLinks, placeFrom, PlainMoved, turns, names, misses, links, PlainPlays, Decodes, PlainGroupsPlay, PlainGroupsSettle}
 use Rattle.plainwiring.proofs.Calls.{MayHear, begin-number, framed-as, stays-as, acted-as}
 
 -- ---- members
 
 -- what stands in any place decodes, or no server stands there
-abbrev AllDecode : List PlainMember → Type 0
+abbrev pub AllDecode : List PlainMember → Type 0
 AllDecode ms = (i : ℕ) → Decodes (getD ms i noMember)
 
 nobody-decodes : Decodes noMember
@@ -363,7 +365,7 @@ played-as c g ks ns d w sound same all (plain.next {d = d′} {k = k} {n = n} {k
 
 -- ---- the group at frame 0
 
-period-taken : (t : Table) (n : ℕ) → freshRefusal t n ≡ 0 → isPeriod n ≡ true
+pub period-taken : (t : Table) (n : ℕ) → freshRefusal t n ≡ 0 → isPeriod n ≡ true
 unfolding freshRefusal takePeriod
 period-taken t n e =
     on (tested (isPeriod n))
@@ -402,17 +404,18 @@ module _ (n : ℕ) (p : isPeriod n ≡ true) where
   unfolding Decodes
   new-decodes s e = on (tested (isEmpty s)) (λ q. absurd (clash (ap isVacant (chosen _ q)) e)) (λ q. new-seated s q .0)
 
-  new-members : (l : List Server) → map memberFrom (map (newPlainMember n) l) ≡ map (newMember n) l
+  pub new-members : (l : List Server) → map memberFrom (map (newPlainMember n) l) ≡ map (newMember n) l
   new-members [] = refl
   new-members (s ∷ l) = ap₂ (λ (x : Member) (y : List Member). x ∷ y) (new-is s) (new-members l)
 
-  new-all : (l : List Server) → AllDecode (map (newPlainMember n) l)
+  pub new-all : (l : List Server) → AllDecode (map (newPlainMember n) l)
   new-all [] i = nobody-decodes
   new-all (s ∷ l) zero = new-decodes s
   new-all (s ∷ l) (suc i) = new-all l i
 
-pub plain-groups-play : PlainGroupsPlay
-plain-groups-play t n ks ns d w ok plays =
+-- from what playout says of fronts
+pub plain-groups-play : OneSheet → PlainGroupsPlay
+plain-groups-play sheets t n ks ns d w ok plays =
     let p = period-taken t n ok in
     let new : groupFrom (newPlainGroup t n) ≡ newGroup t n = ap (λ (l : List Member). record { frame = 0; members = l; whole = replicate (most * most) true }) (new-members n p (t .servers)) in
     let r = played-as (fresh t n) (newPlainGroup t n) ks ns d w (sound-fresh t n ok) (new ∙ new-group t n) (new-all n p (t .servers)) plays in
@@ -423,6 +426,13 @@ plain-groups-play t n ks ns d w ok plays =
       decodes = r .decodes;
       numbers = r .numbers ∙ ap (λ (x : Group). groupNumbers x (map moveFrom ks)) new;
       lines = r .lines ∙ ap (λ (x : Group). groupLines x (map moveFrom ks)) new;
-      agrees = new-agrees t n (map moveFrom ks) ok wired;
+      agrees = sheets t n (map moveFrom ks) ok wired;
       begins = r .begins;
     }
+
+-- demand 3, from what playout says of fronts
+pub plain-groups-settle : OneSheet → GroupsSettle → PlainGroupsSettle
+plain-groups-settle sheets settles t n ms ns d w ok plays uncut i l a =
+    let r = plain-groups-play sheets t n ms ns d w ok plays in
+    subst (GroupSettles (settlingTime n)) (sym (r .group))
+    (settles t n (map moveFrom ms) ok (r .wired) uncut i l (subst (λ (g : Group). isActive (roleAt g i) ≡ true) (r .group) a))

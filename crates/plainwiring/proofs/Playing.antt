@@ -1,33 +1,41 @@
 -- Every move of a group of plain fronts has an outcome, since every call answers. Assumes nothing.
 use mathlib.Core.Bool.{true, false, _&&_}
-use mathlib.Core.Path.{_≡_, refl, sym, subst}
+use mathlib.Core.Path.{_≡_, refl, sym, ap, ap₂, subst, fun-ext, _∙_}
 use mathlib.Core.Logic.{_⊎_, inl, inr}
 use mathlib.Core.List.{List, [], _∷_, map}
-use Prim.Native.Nat.{ℕ, zero, suc}
+use Prim.Native.Nat.{ℕ, zero, suc, _*_}
 use lib.Dec.{eqb}
-use lib.ListN.{getD}
+use lib.ListN.{getD, replicate}
 use Rattle.lists.specs.Choice.{choose}
 use Rattle.lists.proofs.Cases.{tested, on}
 use Rattle.roles.specs.declared.Verb.{Verb}
 use Rattle.roles.specs.Roles.{roleNumber}
 use Rattle.roles.specs.Verbs.{verbNumber}
 use Rattle.front.specs.Front.{risen, hearing, timing, happens}
+use Rattle.group.specs.declared.State.{State}
+use Rattle.group.specs.Table.{most, fresh}
 use Rattle.group.specs.Verbs.{namesNobody}
+use Rattle.group.specs.Calls.{callChannel}
+use Rattle.reached.proofs.Sound.{Sound}
+use Rattle.reached.proofs.Made.{sound-fresh}
+use Rattle.reached.proofs.Reached.{sound-call}
 use Rattle.plain.specs.declared.PlainFront.{PlainFront}
 use Rattle.plain.specs.declared.PlainHeartbeat.{PlainHeartbeat}
 use Rattle.plain.specs.Numbers.{verbOf, eventNumber}
 use Rattle.plain.specs.Plain.{isFront, frontOf, plainFront, isHeartbeat, heartbeatOf, plainHeartbeat}
 use Rattle.playout.specs.Front.{beginNumber, heardNumbers, notHeard, timedNumbers, notTimed, afterVerb, actNumber}
-use Rattle.wiring.specs.Heard.{Group, Heard}
-use Rattle.wiring.specs.Group.{knows}
-use Rattle.wiring.proofs.Keeping.{protocol-can-be-met}
-use Rattle.wiring.specs.Same.{CanHear}
+use Rattle.wiring.specs.Members.{Member}
+use Rattle.wiring.specs.Heard.{Group}
+use Rattle.wiring.specs.Group as wiring
+use Rattle.wiring.specs.Group.{newGroup, knows, Move, moved, WiredIn, Wired}
+use Rattle.wiring.specs.Same.{groupOf, callOf}
+use Rattle.wiring.proofs.Moves.{moved-is, new-group}
 use Rattle.plainwiring.specs.Calls as calls
 use Rattle.plainwiring.specs.Calls.{PlainMember, noMember, HearsAll, FrameCalls, frameGoes, frameOver, ActCalls}
 use Rattle.plainwiring.specs.Group as plain
-use Rattle.plainwiring.specs.Group.{PlainGroup, groupFrom, isVacant, TurnCalls, vacant, seated, frame, entry, ofLinks, placeFrom, turns, names, misses, acts, links, CanMove, MovesAlwaysGo, PlainProtocolCanBeMet}
+use Rattle.plainwiring.specs.Group.{PlainGroup, groupFrom, isVacant, newPlainGroup, TurnCalls, vacant, seated, PlainMove, frame, entry, moveFrom, ofLinks, placeFrom, turns, names, misses, acts, links, PlainPlays, CanMove, MovesAlwaysGo, PlainGroupsCanPlay}
 use Rattle.plainwiring.proofs.Calls.{there-and-back}
-use Rattle.plainwiring.proofs.Group.{plain-groups-play}
+use Rattle.plainwiring.proofs.Group.{AllDecode, stepped, period-taken, new-members, new-all}
 
 -- ---- a frame of one member
 
@@ -126,10 +134,51 @@ moves-always-go g (entry v a b) =
     (known-moves g v a b e)
     (λ f. record { number = _; after = _; lines = _; moves = misses e f }))
 
--- ---- what is heard
+-- ---- lists of moves
 
-pub plain-protocol-can-be-met : PlainProtocolCanBeMet
-plain-protocol-can-be-met t n ks ns d w ok plays j =
-    let r = plain-groups-play t n ks ns d w ok plays in
-    let c = subst (λ (g : Group). CanHear g j) (sym (r .group)) (protocol-can-be-met t n (map plain.moveFrom ks) ok (r .wired) j) in
-    record { heartbeats = map plainHeartbeat (c .heartbeats); heard = subst (Heard (groupFrom d) j) (sym (there-and-back (c .heartbeats))) (c .heard) }
+-- a move with its heartbeats as plain integers
+abbrev plainMove : Move → PlainMove
+plainMove (wiring.frame given) = frame (λ j. map plainHeartbeat (given j))
+plainMove (wiring.entry v a b) = entry v a b
+
+same-move : (k : Move) → moveFrom (plainMove k) ≡ k
+same-move (wiring.frame given) = ap wiring.frame (fun-ext (λ j. there-and-back (given j)))
+same-move (wiring.entry v a b) = refl
+
+pub record CanPlay (g : PlainGroup) (ks : List Move) : Type 0 where
+  pub moves : List PlainMove
+  pub same : map moveFrom moves ≡ ks
+  pub numbers : List ℕ
+  pub after : PlainGroup
+  pub lines : List ℕ
+  pub plays : PlainPlays g moves numbers after lines
+
+can-play : (c : State) (g : PlainGroup) (ks : List Move) → Sound c → groupFrom g ≡ groupOf c → AllDecode (g .members) → Wired (groupFrom g) ks → CanPlay g ks
+can-play c g [] sound same all w = record { moves = []; same = refl; numbers = []; after = g; lines = []; plays = plain.none }
+can-play c g (k ∷ ks) sound same all (wiring.next w ws) =
+    let q = plainMove k in
+    let e = same-move k in
+    let wired : WiredIn (groupFrom g) (moveFrom q) = subst (λ (x : Move). WiredIn (groupFrom g) x) (sym e) w in
+    let m = moves-always-go g q in
+    let s = stepped c sound g same all q (m .number) (m .after) (m .lines) wired (m .moves) in
+    let call = callOf c (moveFrom q) in
+    let then : groupFrom (m .after) ≡ groupOf (callChannel c call) =
+    s .group ∙ ap (λ (x : Group). moved x (moveFrom q)) same ∙ moved-is c (moveFrom q) sound (subst (λ (x : Group). WiredIn x (moveFrom q)) same wired) in
+    let r =
+    can-play (callChannel c call) (m .after) ks (sound-call c call sound) then (s .decodes)
+    (subst (λ (x : Group). Wired x ks) (ap (moved (groupFrom g)) (sym e) ∙ sym (s .group)) ws) in
+    record {
+      moves = q ∷ r .moves;
+      same = ap₂ (λ (x : Move) (l : List Move). x ∷ l) e (r .same);
+      numbers = _;
+      after = _;
+      lines = _;
+      plays = plain.next wired (m .moves) (r .plays);
+    }
+
+pub plain-groups-can-play : PlainGroupsCanPlay
+plain-groups-can-play t n ks ok w =
+    let p = period-taken t n ok in
+    let new : groupFrom (newPlainGroup t n) ≡ newGroup t n = ap (λ (l : List Member). record { frame = 0; members = l; whole = replicate (most * most) true }) (new-members n p (t .servers)) in
+    let r = can-play (fresh t n) (newPlainGroup t n) ks (sound-fresh t n ok) (new ∙ new-group t n) (new-all n p (t .servers)) (subst (λ (x : Group). Wired x ks) (sym new) w) in
+    record { moves = r .moves; same = r .same; numbers = r .numbers; after = r .after; lines = r .lines; plays = r .plays }

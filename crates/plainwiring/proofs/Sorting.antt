@@ -1,6 +1,6 @@
 -- Plain heartbeats are sorted as those that they stand for. Assumes nothing.
 use mathlib.Core.Bool.{true, false}
-use mathlib.Core.Path.{_≡_, refl, sym, ap, _∙_}
+use mathlib.Core.Path.{_≡_, refl, sym, ap, subst, _∙_}
 use mathlib.Core.List.{List, [], _∷_, map}
 use lib.Dec.{eqb}
 use Rattle.lists.proofs.Cases.{tested, on, bit-back}
@@ -12,7 +12,11 @@ use Rattle.plain.specs.Plain.{heartbeatOf}
 use Rattle.playout.specs.Writing.{plainHigher}
 use Rattle.wiring.specs.Heard.{keep, sorted}
 use Rattle.wiring.proofs.Keeping.{keep-before, keep-behind}
-use Rattle.plainwiring.specs.Rules.{keepPlain, sortedPlain, PlainSortIsTheSort}
+use Rattle.wiring.specs.Heard.{Group, Comes, Heard}
+use Rattle.wiring.specs.Same.{OneSheet, SortedIsHeard}
+use Rattle.plainwiring.specs.Group.{groupFrom, moveFrom}
+use Rattle.plainwiring.specs.Rules.{keepPlain, sortedPlain, PlainSortIsHeard}
+use Rattle.plainwiring.proofs.Group.{plain-groups-play}
 
 plain-before : (h k : PlainHeartbeat) (l : List PlainHeartbeat) → eqb (plainHigher h k) 1 ≡ true → keepPlain h (k ∷ l) ≡ h ∷ k ∷ l
 unfolding keepPlain
@@ -40,5 +44,10 @@ unfolding sortedPlain sorted
 sorts l [] = refl
 sorts l (h ∷ hs) = sorts (keepPlain h l) hs ∙ ap (λ (r : List Heartbeat). sorted r (map heartbeatOf hs)) (keeps h l)
 
-pub plain-sort-is-the-sort : PlainSortIsTheSort
-plain-sort-is-the-sort hs = sorts [] hs
+-- from what playout says of fronts
+pub plain-sort-is-heard : OneSheet → SortedIsHeard → PlainSortIsHeard
+plain-sort-is-heard sheets sorts-well t n ms ns d w ok plays j hs comes =
+    let r = plain-groups-play sheets t n ms ns d w ok plays in
+    subst (Heard (groupFrom d) j) (sym (sorts [] hs))
+    (subst (λ (g : Group). Heard g j (sorted [] (map heartbeatOf hs))) (sym (r .group))
+    (sorts-well t n (map moveFrom ms) ok (r .wired) j (map heartbeatOf hs) (subst (λ (g : Group). Comes g j (map heartbeatOf hs)) (r .group) comes)))

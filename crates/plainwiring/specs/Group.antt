@@ -2,27 +2,30 @@
 use mathlib.Core.Bool.{Bool, true, false}
 use mathlib.Core.List.{List, [], _∷_, _++_, map}
 use mathlib.Core.Path.{_≡_}
-use Prim.Native.Nat.{ℕ, suc, _+_, _*_}
+use Prim.Native.Nat.{ℕ, suc, _+_, _*_, _<_}
 use lib.Dec.{eqb}
 use lib.ListN.{getD, set, replicate}
 use Rattle.lists.specs.Choice.{choose}
 use Rattle.timecode.specs.Read.{inDay}
 use Rattle.roles.specs.declared.Verb.{Verb}
 use Rattle.roles.specs.declared.Verb.the-variants.{Start, Ready, Unready, Pass, Crash, Restart, Cut, Mend}
+use Rattle.roles.specs.Roles.{isActive}
 use Rattle.server.specs.declared.Server.{Server}
 use Rattle.group.specs.declared.Table.{Table}
 use Rattle.group.specs.Table.{most, isEmpty, freshRefusal, fresh}
 use Rattle.group.specs.Hearing.{linkOf}
 use Rattle.group.specs.Verbs.{namesNobody, linksAfter}
+use Rattle.settling.specs.Demand.{settlingTime}
 use Rattle.plain.specs.declared.PlainFront.{PlainFront}
 use Rattle.plain.specs.declared.PlainHeartbeat.{PlainHeartbeat}
 use Rattle.plain.specs.Plain.{isFront, frontOf, heartbeatOf}
 use Rattle.playout.specs.Front.{frontMade, Begins}
 use Rattle.wiring.specs.Members.{Member}
-use Rattle.wiring.specs.Heard.{Group, Heard}
+use Rattle.wiring.specs.Heard.{Group}
 use Rattle.wiring.specs.Group as wiring
 use Rattle.wiring.specs.Group.{newGroup, Move, placeOf, knows, stateNumber, entryLines, groupAfter, groupNumbers, groupLines, WiredIn, Wired}
 use Rattle.wiring.specs.Same.{Agrees}
+use Rattle.wiring.specs.Settles.{roleAt, NoneCut, GroupSettles}
 use Rattle.plainwiring.specs.Calls.{PlainMember, noMember, FrameCalls, ActCalls}
 
 -- as `Group` of the crate wiring, with plain fronts
@@ -155,12 +158,23 @@ pub record CanMove (g : PlainGroup) (k : PlainMove) : Type 0 where
 abbrev pub MovesAlwaysGo : Type 0
 MovesAlwaysGo = (g : PlainGroup) (k : PlainMove) → CanMove g k
 
--- and in every group that was played so, something can be heard as it must be
-pub record PlainCanHear (g : PlainGroup) (j : ℕ) : Type 0 where
-  pub heartbeats : List PlainHeartbeat
-  pub heard : Heard (groupFrom g) j (map heartbeatOf heartbeats)
+-- so every list of frames and entries that is wired can be played by these calls. (That every list
+-- can be wired is `ListsCanBeWired` of the crate wiring)
+pub record CanBePlayed (t : Table) (n : ℕ) (ks : List Move) : Type 0 where
+  pub moves : List PlainMove
+  pub same : map moveFrom moves ≡ ks
+  pub numbers : List ℕ
+  pub after : PlainGroup
+  pub lines : List ℕ
+  pub plays : PlainPlays (newPlainGroup t n) moves numbers after lines
 
-abbrev pub PlainProtocolCanBeMet : Type 0
-PlainProtocolCanBeMet =
-    (t : Table) (n : ℕ) (ks : List PlainMove) (ns : List ℕ) (d : PlainGroup) (w : List ℕ) →
-    freshRefusal t n ≡ 0 → PlainPlays (newPlainGroup t n) ks ns d w → (j : ℕ) → PlainCanHear d j
+abbrev pub PlainGroupsCanPlay : Type 0
+PlainGroupsCanPlay = (t : Table) (n : ℕ) (ks : List Move) → freshRefusal t n ≡ 0 → Wired (newGroup t n) ks → CanBePlayed t n ks
+
+-- ---- demand 3 of such a group
+
+abbrev pub PlainGroupsSettle : Type 0
+PlainGroupsSettle =
+    (t : Table) (n : ℕ) (ms : List PlainMove) (ns : List ℕ) (d : PlainGroup) (w : List ℕ) → freshRefusal t n ≡ 0 →
+    PlainPlays (newPlainGroup t n) ms ns d w → NoneCut (newGroup t n) (map moveFrom ms) →
+    (i : ℕ) → i < most → isActive (roleAt (groupFrom d) i) ≡ true → GroupSettles (settlingTime n) (groupFrom d)

@@ -50,23 +50,23 @@ played (suc n) g d w c sound e (plays {w = u} hear right more) =
 
 -- ---- one line
 
-sheet-stop : (k n : ℕ) (d : Day) (l : List ℕ) (ls : List (List ℕ)) → effectOf k d (lineRead l) ≡ stop n → sheetFrom k d (l ∷ ls) ≡ inputRefusal k n
+pub sheet-stop : (k n : ℕ) (d : Day) (l : List ℕ) (ls : List (List ℕ)) → effectOf k d (lineRead l) ≡ stop n → sheetFrom k d (l ∷ ls) ≡ inputRefusal k n
 unfolding sheetFrom
 sheet-stop k n d l ls e = rw (e, sheetFrom)
 
-sheet-go : (k : ℕ) (d f : Day) (w l : List ℕ) (ls : List (List ℕ)) → effectOf k d (lineRead l) ≡ go w f → sheetFrom k d (l ∷ ls) ≡ w ++ sheetFrom (suc k) f ls
+pub sheet-go : (k : ℕ) (d f : Day) (w l : List ℕ) (ls : List (List ℕ)) → effectOf k d (lineRead l) ≡ go w f → sheetFrom k d (l ∷ ls) ≡ w ++ sheetFrom (suc k) f ls
 unfolding sheetFrom
 sheet-go k d f w l ls e = rw (e, sheetFrom)
 
-effect-early : (k : ℕ) (d : Day) (l : DayLine) → leb k lastLine ≡ true → effectOf k d l ≡ lineEffect d l
+pub effect-early : (k : ℕ) (d : Day) (l : DayLine) → leb k lastLine ≡ true → effectOf k d l ≡ lineEffect d l
 unfolding effectOf
 effect-early k d l e = rw (e, effectOf)
 
-effect-late : (k : ℕ) (d : Day) (l : DayLine) → leb k lastLine ≡ false → effectOf k d l ≡ day.beyond l
+pub effect-late : (k : ℕ) (d : Day) (l : DayLine) → leb k lastLine ≡ false → effectOf k d l ≡ day.beyond l
 unfolding effectOf
 effect-late k d l e = rw (e, effectOf)
 
-beyond-is : (l : DayLine) → day.beyond l ≡ stop (stopsBeyond l)
+pub beyond-is : (l : DayLine) → day.beyond l ≡ stop (stopsBeyond l)
 unfolding stopsBeyond
 beyond-is (wrong n) = refl
 beyond-is (period p) = refl
@@ -237,11 +237,11 @@ begins-at k c l ls i e =
 -- ---- the lines before them
 
 -- the table of a fresh channel is the one that it was opened with
-its-table : (t : Table) (n : ℕ) → isTable (t .servers) ≡ true → day.tableOf (fresh t n) ≡ t
+pub its-table : (t : Table) (n : ℕ) → isTable (t .servers) ≡ true → day.tableOf (fresh t n) ≡ t
 its-table t n ok = ap (λ (l : List Server). record { servers = l }) (same-servers (t .servers) ok)
 
 -- a server that is taken
-add-taken : (t : Table) (n i p : ℕ) → addRefusal t i ≡ 0 → addEffect (fresh t n) i p ≡ go [] (day.on atServers (fresh (added t i p) n))
+pub add-taken : (t : Table) (n i p : ℕ) → addRefusal t i ≡ 0 → addEffect (fresh t n) i p ≡ go [] (day.on atServers (fresh (added t i p) n))
 unfolding addEffect
 add-taken t n i p e =
     let same = its-table t n (to-table t i e .0) in

@@ -3,6 +3,7 @@ pub mod Inboxes
 pub mod Members
 pub mod Frames
 pub mod Entries
+pub mod Meeting
 pub mod Moves
 pub mod Keeping
 pub mod Few

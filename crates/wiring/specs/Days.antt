@@ -127,3 +127,11 @@ pub record CanPrint (k : ℕ) (g : Group) (rest : List (List ℕ)) : Type 0 wher
 
 abbrev pub DaysCanBePlayed : Type 0
 DaysCanBePlayed = (s : List ℕ) (t : Table) (n k : ℕ) (rest : List (List ℕ)) → DayOf s t n k rest → CanPrint k (newGroup t n) rest
+
+-- of every day either servers are taken and an entry or `end` follows, or the sheet is one refusal
+pub data DayRead (s : List ℕ) : Type 0 where
+  opened : {t : Table} {n k : ℕ} {rest : List (List ℕ)} → DayOf s t n k rest → DayRead s
+  refused : (k n : ℕ) → sheet s ≡ header ++ inputRefusal k n → DayRead s
+
+abbrev pub DaysAreRead : Type 0
+DaysAreRead = (s : List ℕ) → DayRead s

@@ -1,10 +1,10 @@
 -- The number of the rules, and what servers that play by the same rules have of it.
 use mathlib.Core.Path.{_≡_}
 use Prim.Native.Nat.{ℕ}
-use Rattle.wiring.specs.Same.{OneSheet, ProtocolCanBeMet, SortedIsHeard, mostHeard, FewAreSent, FewAreHeard}
-use Rattle.wiring.specs.Settles.{GroupsSettle}
+use Rattle.wiring.specs.Same.{OneSheet, ProtocolCanBeMet, SortedIsHeard, ListsCanBeWired, AnyOrderComes, mostHeard, FewAreSent, FewAreHeard}
+use Rattle.wiring.specs.Settles.{GroupsSettle, FramesMayFollow}
 use Rattle.wiring.specs.Anew.{NewFrontsGoOn}
-use Rattle.wiring.specs.Days.{OneSheetOfADay, DaysCanBePlayed}
+use Rattle.wiring.specs.Days.{OneSheetOfADay, DaysCanBePlayed, DaysAreRead}
 
 -- 1 for the rules of document 01; one more with every change of the rules that a sheet can show
 abbrev pub rulesNumber : ℕ
@@ -20,6 +20,10 @@ pub record Rules (r : ℕ) : Type 0 where
   pub met : ProtocolCanBeMet
   pub sorted : SortedIsHeard
   pub settles : GroupsSettle
+  pub wired : ListsCanBeWired
+  pub comes : AnyOrderComes
+  pub read : DaysAreRead
+  pub follow : FramesMayFollow
 
 -- ---- how much may be sent and come in a frame
 

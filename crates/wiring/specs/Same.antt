@@ -15,7 +15,7 @@ use Rattle.group.specs.Verbs.{verbOutcome}
 use Rattle.group.specs.Calls.{Call, verb, advance, callChannel, channelAfter, numbersOf}
 use Rattle.group.specs.Laws.{linesAfter}
 use Rattle.wiring.specs.Members.{Member, nobody}
-use Rattle.wiring.specs.Heard.{Group, memberAt, Comes, Heard, sorted}
+use Rattle.wiring.specs.Heard.{Group, memberAt, from, Comes, Heard, sorted}
 use Rattle.wiring.specs.Group.{newGroup, Move, frame, entry, groupAfter, groupNumbers, groupLines, Wired}
 
 -- the group that the channel c stands for: each server in a front of its own, with what it sent
@@ -68,8 +68,8 @@ mostSent = mostBeats + 2
 
 abbrev pub FewAreSent : Type 0
 FewAreSent =
-    (t : Table) (n : ℕ) (ks : List Move) → freshRefusal t n ≡ 0 → Wired (newGroup t n) ks →
-    (i : ℕ) → length (memberAt (groupAfter (newGroup t n) ks) i .sent) ≤ mostSent
+    (t : Table) (n : ℕ) (ms : List Move) → freshRefusal t n ≡ 0 → Wired (newGroup t n) ms →
+    (i : ℕ) → length (memberAt (groupAfter (newGroup t n) ms) i .sent) ≤ mostSent
 
 -- so that no more comes to a place: what all others sent
 abbrev pub mostHeard : ℕ
@@ -77,5 +77,25 @@ mostHeard = (most - 1) * mostSent
 
 abbrev pub FewAreHeard : Type 0
 FewAreHeard =
-    (t : Table) (n : ℕ) (ks : List Move) → freshRefusal t n ≡ 0 → Wired (newGroup t n) ks →
-    let g = groupAfter (newGroup t n) ks in (j : ℕ) (hs : List Heartbeat) → j < most → Comes g j hs → length hs ≤ mostHeard
+    (t : Table) (n : ℕ) (ls : List Move) → freshRefusal t n ≡ 0 → Wired (newGroup t n) ls →
+    let g = groupAfter (newGroup t n) ls in (j : ℕ) (hs : List Heartbeat) → j < most → Comes g j hs → length hs ≤ mostHeard
+
+-- ---- that the premises can be met
+
+-- what is asked of a move, whatever is heard in it
+abbrev pub asked : Move → Move
+asked (frame hear) = frame (λ j. [])
+asked (entry v a b) = entry v a b
+
+pub record CanBeWired (g : Group) (ms : List Move) : Type 0 where
+  pub moves : List Move
+  pub same : map asked moves ≡ map asked ms
+  pub wired : Wired g moves
+
+-- after any list that was wired, every list of frames and entries, refused ones included, can be
+abbrev pub ListsCanBeWired : Type 0
+ListsCanBeWired = (t : Table) (n : ℕ) (ks ms : List Move) → freshRefusal t n ≡ 0 → Wired (newGroup t n) ks → CanBeWired (groupAfter (newGroup t n) ks) ms
+
+-- where hs may come, so may whatever has the same of each sender, however senders are mixed
+abbrev pub AnyOrderComes : Type 0
+AnyOrderComes = (g : Group) (j : ℕ) (hs ks : List Heartbeat) → ((x : ℕ) → from x ks ≡ from x hs) → Comes g j hs → Comes g j ks

@@ -2,10 +2,11 @@
 use mathlib.Core.Bool.{Bool, true, false, not, _&&_}
 use mathlib.Core.Path.{_≡_}
 use mathlib.Core.Logic.{_⊎_, _≢_}
-use mathlib.Core.List.{List, [], _∷_}
+use mathlib.Core.List.{List, [], _∷_, map}
 use Prim.Native.Nat.{ℕ, _+_, _<_, _≤_}
 use lib.Dec.{eqb}
 use Rattle.lists.specs.Choice.{choose}
+use Rattle.heartbeat.specs.declared.Heartbeat.{Heartbeat}
 use Rattle.heartbeat.specs.Rank.{higher}
 use Rattle.roles.specs.declared.Role.{Role}
 use Rattle.roles.specs.declared.Role.the-variants.{Backup, Primary}
@@ -87,3 +88,7 @@ abbrev pub GroupsSettle : Type 0
 GroupsSettle =
     (t : Table) (n : ℕ) (ks : List Move) → freshRefusal t n ≡ 0 → Wired (newGroup t n) ks → NoneCut (newGroup t n) ks →
     let g = groupAfter (newGroup t n) ks in (i : ℕ) → i < most → isActive (roleAt g i) ≡ true → GroupSettles (settlingTime n) g
+
+-- frames alone are no entries
+abbrev pub FramesMayFollow : Type 0
+FramesMayFollow = (g : Group) (hears : List (ℕ → List Heartbeat)) → entriesRefused g (map frame hears) ≡ true
