@@ -368,10 +368,11 @@ playout_front_made playout_front_new(uint16_t identity, uint8_t priority, uint32
 uint32_t playout_front_begin(playout_front *front);
 
 /*
- * One heartbeat is heard in the present frame. Leave out those of the server itself: they are not
- * refused, each sets a backup's silence timer as another's would, and a backup that hears one in
- * every frame never steps in. Gives the event and the role afterwards. Refused with 2 (the front
- * does not decode, or the heartbeat's tiebreaker is 0).
+ * One heartbeat is heard in the present frame. Leave out those of servers that are not in the table
+ * and those of the server itself: they are not refused, each sets a backup's silence timer as
+ * another's would, and a backup that hears one in every frame never steps in. Gives the event and
+ * the role afterwards. Refused with 2 (the front does not decode, or the heartbeat's tiebreaker is
+ * 0).
  */
 playout_heard playout_front_hear(playout_front *front, playout_heartbeat heartbeat);
 

@@ -4,7 +4,7 @@ use mathlib.Core.Bool.{Bool, true, false, not, _&&_}
 use mathlib.Core.Path.{_≡_, refl, sym, ap, ap₂, subst, _∙_}
 use mathlib.Core.Logic.{inl, inr}
 use mathlib.Core.List.{List, [], _∷_, _++_, map, List·Memᴰ, List·Memᴰ·head, List·Memᴰ·tail, List·Memᴰ·cases-cons}
-use Prim.Native.Nat.{ℕ, zero, suc, _+_, _*_, _<_}
+use Prim.Native.Nat.{ℕ, zero, suc, _+_, _*_, _<_, _≤_}
 use native.Mathlib.Omega.{arith}
 use borrow.Author.Tests.{eq-eqb, ne-eqb, eqb-true, eqb-false, ltb-true}
 use lib.Dec.{eqb}
@@ -28,12 +28,12 @@ use Rattle.group.specs.declared.State.{State}
 use Rattle.group.specs.Table.{most, isEmpty, isTable, freshRefusal, fresh}
 use Rattle.group.specs.Hearing.{place, linkOf}
 use Rattle.group.specs.Verbs.{namesNobody, linksAfter}
-use Rattle.group.specs.Calls.{callChannel}
+use Rattle.group.specs.Calls.{callChannel, channelAfter}
 use Rattle.reached.proofs.Sound.{Sound}
 use Rattle.reached.proofs.Made.{sound-fresh}
-use Rattle.reached.proofs.Reached.{sound-call}
+use Rattle.reached.proofs.Reached.{sound-call, sound-after}
 use Rattle.settling.specs.Demand.{settlingTime}
-use Rattle.wiring.specs.Settles.{roleAt, GroupSettles, GroupsSettle}
+use Rattle.wiring.specs.Settles.{roleAt, GroupLed, NoneBeating, GroupSettles, GroupsSettle}
 use Rattle.plain.specs.declared.PlainFront.{PlainFront}
 use Rattle.plain.specs.declared.PlainHeartbeat.{PlainHeartbeat}
 use Rattle.plain.specs.Numbers.{isPeriod, periodOf}
@@ -46,7 +46,7 @@ use Rattle.wiring.specs.Heard as heard
 use Rattle.wiring.specs.Heard.{Group, memberAt}
 use Rattle.wiring.specs.Group as wiring
 use Rattle.wiring.specs.Group.{newMember, newGroup, turn, framed, linesEach, placeIn, placeOf, isIn, knows, ownNumber, stateNumber, entryNumber, entered, entryLines, moveNumber, movesTo, moveLines, moved, groupAfter, groupNumbers, groupLines, MustHear, WiredIn, Wired}
-use Rattle.wiring.specs.Same.{memberOf, groupOf, callOf, OneSheet}
+use Rattle.wiring.specs.Same.{memberOf, groupOf, callOf, callsOf, OneSheet}
 use Rattle.wiring.proofs.Inboxes.{member-at, taken}
 use Rattle.wiring.proofs.Moves.{moved-is, new-group}
 use Rattle.plainwiring.specs.Calls.{PlainMember, noMember, ActCalls}
@@ -434,5 +434,22 @@ plain-groups-play sheets t n ks ns d w ok plays =
 pub plain-groups-settle : OneSheet → GroupsSettle → PlainGroupsSettle
 plain-groups-settle sheets settles t n ms ns d w ok plays uncut i l a =
     let r = plain-groups-play sheets t n ms ns d w ok plays in
+    let c = fresh t n in
+    let calls = callsOf c (map moveFrom ms) in
+    let sound = sound-after c calls (sound-fresh t n ok) in
+    let is : groupFrom d ≡ groupOf (channelAfter c calls) = r .group ∙ r .agrees .group in
+    let s =
     subst (GroupSettles (settlingTime n)) (sym (r .group))
-    (settles t n (map moveFrom ms) ok (r .wired) uncut i l (subst (λ (g : Group). isActive (roleAt g i) ≡ true) (r .group) a))
+    (settles t n (map moveFrom ms) ok (r .wired) uncut i l (subst (λ (g : Group). isActive (roleAt g i) ≡ true) (r .group) a)) in
+    record {
+      server = s .server;
+      seated = s .seated;
+      was = s .was;
+      led = λ ks js e v more refused late.
+          let q = played-as (channelAfter c calls) d ks js e v sound is (r .decodes) more in
+          subst (GroupLed (groupFrom d) (s .server)) (sym (q .group))
+          (s .led (map moveFrom ks) (q .wired) refused (subst (λ (g : Group). d .frame + settlingTime n ≤ g .frame) (q .group) late));
+      highest = λ ks js e v more refused one none.
+          let q = played-as (channelAfter c calls) d ks js e v sound is (r .decodes) more in
+          s .highest (map moveFrom ks) (q .wired) refused (sym (ap (λ (g : Group). g .frame) (q .group)) ∙ one) (subst NoneBeating (q .group) none);
+    }

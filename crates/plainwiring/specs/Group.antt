@@ -2,7 +2,7 @@
 use mathlib.Core.Bool.{Bool, true, false}
 use mathlib.Core.List.{List, [], _∷_, _++_, map}
 use mathlib.Core.Path.{_≡_}
-use Prim.Native.Nat.{ℕ, suc, _+_, _*_, _<_}
+use Prim.Native.Nat.{ℕ, suc, _+_, _*_, _<_, _≤_}
 use lib.Dec.{eqb}
 use lib.ListN.{getD, set, replicate}
 use Rattle.lists.specs.Choice.{choose}
@@ -21,11 +21,11 @@ use Rattle.plain.specs.declared.PlainHeartbeat.{PlainHeartbeat}
 use Rattle.plain.specs.Plain.{isFront, frontOf, heartbeatOf}
 use Rattle.playout.specs.Front.{frontMade, Begins}
 use Rattle.wiring.specs.Members.{Member}
-use Rattle.wiring.specs.Heard.{Group}
+use Rattle.wiring.specs.Heard.{Group, Seated}
 use Rattle.wiring.specs.Group as wiring
 use Rattle.wiring.specs.Group.{newGroup, Move, placeOf, knows, stateNumber, entryLines, groupAfter, groupNumbers, groupLines, WiredIn, Wired}
 use Rattle.wiring.specs.Same.{Agrees}
-use Rattle.wiring.specs.Settles.{roleAt, NoneCut, GroupSettles}
+use Rattle.wiring.specs.Settles.{roleAt, NoneCut, entriesRefused, GroupLed, NoneBeating, HighestInGroup}
 use Rattle.plainwiring.specs.Calls.{PlainMember, noMember, FrameCalls, ActCalls}
 
 -- as `Group` of the crate wiring, with plain fronts
@@ -173,8 +173,20 @@ PlainGroupsCanPlay = (t : Table) (n : ℕ) (ks : List Move) → freshRefusal t n
 
 -- ---- demand 3 of such a group
 
+-- as `GroupSettles` of the crate wiring, what follows the list being played by these calls too
+pub record PlainSettles (s : ℕ) (d : PlainGroup) : Type 0 where
+  pub server : ℕ
+  pub seated : Seated (groupFrom d) server
+  pub was : isActive (roleAt (groupFrom d) server) ≡ true
+  pub led :
+      (ms : List PlainMove) (ns : List ℕ) (e : PlainGroup) (w : List ℕ) → PlainPlays d ms ns e w → entriesRefused (groupFrom d) (map moveFrom ms) ≡ true →
+      d .frame + s ≤ e .frame → GroupLed (groupFrom d) server (groupFrom e)
+  pub highest :
+      (ms : List PlainMove) (ns : List ℕ) (e : PlainGroup) (w : List ℕ) → PlainPlays d ms ns e w → entriesRefused (groupFrom d) (map moveFrom ms) ≡ true →
+      e .frame ≡ d .frame + 1 → NoneBeating (groupFrom e) → HighestInGroup (groupFrom d) server
+
 abbrev pub PlainGroupsSettle : Type 0
 PlainGroupsSettle =
     (t : Table) (n : ℕ) (ms : List PlainMove) (ns : List ℕ) (d : PlainGroup) (w : List ℕ) → freshRefusal t n ≡ 0 →
     PlainPlays (newPlainGroup t n) ms ns d w → NoneCut (newGroup t n) (map moveFrom ms) →
-    (i : ℕ) → i < most → isActive (roleAt (groupFrom d) i) ≡ true → GroupSettles (settlingTime n) (groupFrom d)
+    (i : ℕ) → i < most → isActive (roleAt (groupFrom d) i) ≡ true → PlainSettles (settlingTime n) d

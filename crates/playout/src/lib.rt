@@ -398,9 +398,9 @@ pub extern "C" fn playout_front_begin(front: &mut PlainFront) -> u32
     next.answer
 }
 
-// One heartbeat is heard in the present frame. Leave out those of the server itself: they are not
-// refused, each sets a backup's silence timer as another's would, and a backup that hears one in
-// every frame never steps in. Gives the event and the role afterwards. Refused with 2 (the front
+// One heartbeat is heard in the present frame. Leave out those of servers that are not in the table
+// and those of the server itself: they are not refused, each sets a backup's silence timer as
+// another's would, and a backup that hears one in every frame never steps in. Gives the event and the role afterwards. Refused with 2 (the front
 // does not decode, or the heartbeat's tiebreaker is 0).
 #[no_mangle]
 pub extern "C" fn playout_front_hear(

@@ -441,4 +441,6 @@ new-fronts-go-on t n xs ok d =
       lines = r .lines;
       fronts = λ i. alike-fronts _ _ (at (doneAfter g xs) (groupAfter g (map moveOf xs)) (r .twins) i .front);
       sent = λ i. at (doneAfter g xs) (groupAfter g (map moveOf xs)) (r .twins) i .sent;
+      frame = r .twins .frame;
+      whole = r .twins .whole;
     }

@@ -1,6 +1,6 @@
 -- The premises can be met: lists are wired, heartbeats come in any order, days are read. Assumes
 -- nothing.
-use mathlib.Core.Bool.{true}
+use mathlib.Core.Bool.{true, not}
 use mathlib.Core.Path.{_≡_, refl, sym, ap, ap₂, subst, _∙_}
 use mathlib.Core.Logic.{_⊎_, inl, inr}
 use mathlib.Core.List.{List, [], _∷_, _++_, List·Memᴰ}
@@ -21,12 +21,12 @@ use Rattle.day.specs.Sheet.{header, inputRefusal, sheetFrom, sheet}
 use Rattle.reached.proofs.Sound.{Sound}
 use Rattle.reached.proofs.Made.{sound-fresh}
 use Rattle.reached.proofs.Reached.{sound-call, sound-after}
-use Rattle.wiring.specs.Heard.{Group}
+use Rattle.wiring.specs.Heard.{Group, Heard}
 use Rattle.wiring.specs.Group as group
-use Rattle.wiring.specs.Group.{Move, moved, WiredIn, Wired}
-use Rattle.wiring.specs.Same.{groupOf, callOf, callsOf, asked, CanBeWired, ListsCanBeWired, AnyOrderComes}
+use Rattle.wiring.specs.Group.{Move, moveNumber, moved, WiredIn, Wired}
+use Rattle.wiring.specs.Same.{groupOf, callOf, callsOf, asked, CanBeWired, ListsCanBeWired, AnyOrderComes, InactiveHearAnything}
 use Rattle.wiring.specs.Days.{stopsBeyond, isEntry, AddsAll, none, next, DayRead, opened, refused, DaysAreRead}
-use Rattle.wiring.specs.Settles.{entriesRefused, FramesMayFollow}
+use Rattle.wiring.specs.Settles.{entriesRefused, FramesMayFollow, RefusedMayFollow}
 use Rattle.wiring.proofs.Sorting.{of-from, to-from}
 use Rattle.wiring.proofs.Inboxes.{inbox-heard}
 use Rattle.wiring.proofs.Moves.{moved-is, new-agrees}
@@ -73,12 +73,22 @@ any-order-comes g j hs ks e c =
       known = λ h m. c .known h (of-from (h .tiebreaker) hs (subst (List·Memᴰ h) (e (h .tiebreaker)) (to-from ks m)));
     }
 
--- ---- frames alone
+pub inactive-hear-anything : InactiveHearAnything
+inactive-hear-anything g hear other same w = λ day j m. subst (Heard g j) (same j (m .1)) (w day j m)
+
+-- ---- frames alone, and refused entries
 
 pub frames-may-follow : FramesMayFollow
 unfolding entriesRefused
 frames-may-follow g [] = refl
 frames-may-follow g (h ∷ hs) = and-true refl (frames-may-follow (moved g (group.frame h)) hs)
+
+pub refused-may-follow : RefusedMayFollow
+unfolding entriesRefused moved
+refused-may-follow g v a b ms n e =
+    let k = group.entry v a b in
+    let t = ne-eqb (moveNumber g k) 0 n in
+    and-true (ap not t) (ap (λ (x : Group). entriesRefused x ms) (other _ t) ∙ e)
 
 -- ---- days
 

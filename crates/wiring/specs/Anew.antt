@@ -62,6 +62,8 @@ pub record GoesOnAlike (g : Group) (xs : List Doing) : Type 0 where
   pub lines : doneLines g xs ≡ groupLines g (map moveOf xs)
   pub fronts : (i : ℕ) → Alike (memberAt (doneAfter g xs) i .front) (memberAt (groupAfter g (map moveOf xs)) i .front)
   pub sent : (i : ℕ) → memberAt (doneAfter g xs) i .sent ≡ memberAt (groupAfter g (map moveOf xs)) i .sent
+  pub frame : doneAfter g xs .frame ≡ groupAfter g (map moveOf xs) .frame
+  pub whole : doneAfter g xs .whole ≡ groupAfter g (map moveOf xs) .whole
 
 abbrev pub NewFrontsGoOn : Type 0
 NewFrontsGoOn = (t : Table) (n : ℕ) (xs : List Doing) → freshRefusal t n ≡ 0 → DoneWired (newGroup t n) xs → GoesOnAlike (newGroup t n) xs

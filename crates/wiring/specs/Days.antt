@@ -65,6 +65,7 @@ closed k (l ∷ ls) = inputRefusal k (stopsBeyond (lineRead l))
 pub data Prints : ℕ → Group → List (List ℕ) → List ℕ → Type 0 where
   -- "input ended without `end`"
   unended : {k : ℕ} {g : Group} → Prints k g [] (inputRefusal k 4)
+  -- the line's own fault; `stops` has it too where its number is not 0
   faults : {k n : ℕ} {g : Group} {l : List ℕ} {ls : List (List ℕ)} → lineRead l ≡ wrong n → Prints k g (l ∷ ls) (inputRefusal k n)
   stops : {k n : ℕ} {g : Group} {l : List ℕ} {ls : List (List ℕ)} → lineStops k g (lineRead l) ≡ suc n → Prints k g (l ∷ ls) (inputRefusal k (suc n))
   -- "11. Time before the present frame.", by whoever keeps the clock
@@ -128,7 +129,8 @@ pub record CanPrint (k : ℕ) (g : Group) (rest : List (List ℕ)) : Type 0 wher
 abbrev pub DaysCanBePlayed : Type 0
 DaysCanBePlayed = (s : List ℕ) (t : Table) (n k : ℕ) (rest : List (List ℕ)) → DayOf s t n k rest → CanPrint k (newGroup t n) rest
 
--- of every day either servers are taken and an entry or `end` follows, or the sheet is one refusal
+-- of every day either servers are taken and an entry or `end` follows, or the sheet is the header
+-- and one refusal
 pub data DayRead (s : List ℕ) : Type 0 where
   opened : {t : Table} {n k : ℕ} {rest : List (List ℕ)} → DayOf s t n k rest → DayRead s
   refused : (k n : ℕ) → sheet s ≡ header ++ inputRefusal k n → DayRead s

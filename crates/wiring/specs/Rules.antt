@@ -1,8 +1,9 @@
--- The number of the rules, and what servers that play by the same rules have of it.
+-- The number of the rules, and what servers that play by the same rules have of it; and how much
+-- they send and hear in a frame.
 use mathlib.Core.Path.{_≡_}
 use Prim.Native.Nat.{ℕ}
-use Rattle.wiring.specs.Same.{OneSheet, ProtocolCanBeMet, SortedIsHeard, ListsCanBeWired, AnyOrderComes, mostHeard, FewAreSent, FewAreHeard}
-use Rattle.wiring.specs.Settles.{GroupsSettle, FramesMayFollow}
+use Rattle.wiring.specs.Same.{OneSheet, ProtocolCanBeMet, SortedIsHeard, ListsCanBeWired, AnyOrderComes, InactiveHearAnything, mostHeard, FewAreSent, FewAreHeard}
+use Rattle.wiring.specs.Settles.{GroupsSettle, FramesMayFollow, RefusedMayFollow}
 use Rattle.wiring.specs.Anew.{NewFrontsGoOn}
 use Rattle.wiring.specs.Days.{OneSheetOfADay, DaysCanBePlayed, DaysAreRead}
 
@@ -22,8 +23,10 @@ pub record Rules (r : ℕ) : Type 0 where
   pub settles : GroupsSettle
   pub wired : ListsCanBeWired
   pub comes : AnyOrderComes
+  pub anything : InactiveHearAnything
   pub read : DaysAreRead
   pub follow : FramesMayFollow
+  pub among : RefusedMayFollow
 
 -- ---- how much may be sent and come in a frame
 

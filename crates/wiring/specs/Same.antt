@@ -1,10 +1,12 @@
 -- A group of fronts wired by the protocol is the channel: one sheet, whoever builds the server.
+use mathlib.Core.Bool.{true}
 use mathlib.Core.List.{List, [], _∷_, map}
 use mathlib.Core.Path.{_≡_}
 use Prim.Native.Nat.{ℕ, _+_, _-_, _*_, _<_, _≤_}
 use lib.ListN.{length}
 use Rattle.lists.specs.Choice.{choose}
 use Rattle.heartbeat.specs.declared.Heartbeat.{Heartbeat}
+use Rattle.roles.specs.Roles.{isActive}
 use Rattle.server.specs.declared.Server.{Server}
 use Rattle.server.specs.Server.{mostBeats, sentBy}
 use Rattle.group.specs.declared.Table.{Table}
@@ -16,7 +18,7 @@ use Rattle.group.specs.Calls.{Call, verb, advance, callChannel, channelAfter, n
 use Rattle.group.specs.Laws.{linesAfter}
 use Rattle.wiring.specs.Members.{Member, nobody}
 use Rattle.wiring.specs.Heard.{Group, memberAt, from, Comes, Heard, sorted}
-use Rattle.wiring.specs.Group.{newGroup, Move, frame, entry, groupAfter, groupNumbers, groupLines, Wired}
+use Rattle.wiring.specs.Group.{newGroup, Move, frame, entry, groupAfter, groupNumbers, groupLines, WiredIn, Wired}
 
 -- the group that the channel c stands for: each server in a front of its own, with what it sent
 abbrev pub memberOf : State → Server → Member
@@ -82,11 +84,12 @@ FewAreHeard =
 
 -- ---- that the premises can be met
 
--- what is asked of a move, whatever is heard in it
+-- a move without what is heard in it
 abbrev pub asked : Move → Move
 asked (frame hear) = frame (λ j. [])
 asked (entry v a b) = entry v a b
 
+-- the moves ms, with something heard in each frame as it must be
 pub record CanBeWired (g : Group) (ms : List Move) : Type 0 where
   pub moves : List Move
   pub same : map asked moves ≡ map asked ms
@@ -98,4 +101,10 @@ ListsCanBeWired = (t : Table) (n : ℕ) (ks ms : List Move) → freshRefusal t n
 
 -- where hs may come, so may whatever has the same of each sender, however senders are mixed
 abbrev pub AnyOrderComes : Type 0
-AnyOrderComes = (g : Group) (j : ℕ) (hs ks : List Heartbeat) → ((x : ℕ) → from x ks ≡ from x hs) → Comes g j hs → Comes g j ks
+AnyOrderComes = (g : Group) (j : ℕ) (hs ls : List Heartbeat) → ((x : ℕ) → from x ls ≡ from x hs) → Comes g j hs → Comes g j ls
+
+-- and who is down, idle or in sync when a frame begins may hear anything in it
+abbrev pub InactiveHearAnything : Type 0
+InactiveHearAnything =
+    (g : Group) (hear other : ℕ → List Heartbeat) → ((j : ℕ) → isActive (memberAt g j .front .server .role) ≡ true → hear j ≡ other j) →
+    WiredIn g (frame hear) → WiredIn g (frame other)

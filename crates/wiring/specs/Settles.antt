@@ -8,6 +8,7 @@ use lib.Dec.{eqb}
 use Rattle.lists.specs.Choice.{choose}
 use Rattle.heartbeat.specs.declared.Heartbeat.{Heartbeat}
 use Rattle.heartbeat.specs.Rank.{higher}
+use Rattle.roles.specs.declared.Verb.{Verb}
 use Rattle.roles.specs.declared.Role.{Role}
 use Rattle.roles.specs.declared.Role.the-variants.{Backup, Primary}
 use Rattle.roles.specs.Roles.{isActive, isBeating}
@@ -92,3 +93,9 @@ GroupsSettle =
 -- frames alone are no entries
 abbrev pub FramesMayFollow : Type 0
 FramesMayFollow = (g : Group) (hears : List (ℕ → List Heartbeat)) → entriesRefused g (map frame hears) ≡ true
+
+-- and refused entries may stand among them
+abbrev pub RefusedMayFollow : Type 0
+RefusedMayFollow =
+    (g : Group) (v : Verb) (a b : ℕ) (ms : List Move) → moveNumber g (entry v a b) ≢ 0 → entriesRefused g ms ≡ true →
+    entriesRefused g (entry v a b ∷ ms) ≡ true

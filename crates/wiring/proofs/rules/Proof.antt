@@ -5,7 +5,7 @@ use Rattle.wiring.proofs.Moves.{one-sheet}
 use Rattle.wiring.proofs.Keeping.{sorted-is-heard, protocol-can-be-met}
 use Rattle.wiring.proofs.Settles.{groups-settle}
 use Rattle.wiring.proofs.Days.{one-sheet-of-a-day}
-use Rattle.wiring.proofs.Meeting.{lists-can-be-wired, any-order-comes, days-are-read, frames-may-follow}
+use Rattle.wiring.proofs.Meeting.{lists-can-be-wired, any-order-comes, inactive-hear-anything, days-are-read, frames-may-follow, refused-may-follow}
 use Rattle.wiring.proofs.Playing.{days-can-be-played}
 use Rattle.wiring.proofs.Anew.{new-fronts-go-on}
 
@@ -23,8 +23,10 @@ returns c =
       settles = groups-settle;
       wired = lists-can-be-wired;
       comes = any-order-comes;
+      anything = inactive-hear-anything;
       read = days-are-read;
       follow = frames-may-follow;
+      among = refused-may-follow;
     }
 
 pub rules-spec : {M : Type 1} → statement M
