@@ -1,7 +1,8 @@
 //! The same days through the model in place and through the engine, and how long each takes: first
 //! as lists of calls, in one process, then as files, each through two programs. In a list each step
 //! is lent 50,000,000 bytes, and the engine advances within the slice, as a day does. Between the
-//! two, lists of single calls on a channel by value, one frame at a time.
+//! two, lists of single calls on a channel by value, one frame at a time. Last, the program that
+//! prints the sheet of a day against the one that judges it.
 
 #![allow(dead_code)]
 
@@ -36,6 +37,7 @@ const PROGRAM_ROUNDS: usize = 9;
 
 const MODEL: &str = concat!(env!("CARGO_MANIFEST_DIR"), "/../model/target/release/model");
 const SHEET: &str = concat!(env!("CARGO_MANIFEST_DIR"), "/../target/bin/sheet");
+const ACCEPT: &str = concat!(env!("CARGO_MANIFEST_DIR"), "/../target/bin/accept");
 
 // a slice is a pointer and a length
 extern "C" {
@@ -152,12 +154,12 @@ impl Singles {
     }
 }
 
-/// Of one case: how many calls, or lines of a day; the bytes that come of them; and the best times.
+/// Of one case: how many calls, or lines of a day; the bytes that come of them; and the times of
+/// the two that are compared.
 struct Row {
     calls: usize,
     bytes: u64,
-    model: Duration,
-    engine: Duration,
+    times: [Duration; 2],
 }
 
 /// The best of some rounds, in which the two take turns; or what differs.
@@ -167,15 +169,15 @@ fn time(calls: &[Call], ours: &mut [u8], theirs: &mut [u8]) -> Result<Row, Strin
     // so that no run has to wait for its memory
     ours.fill(b'.');
     theirs.fill(b'.');
-    let mut row = Row { calls: count, bytes: 0, model: Duration::MAX, engine: Duration::MAX };
+    let mut row = Row { calls: count, bytes: 0, times: [Duration::MAX; 2] };
     for _ in 0..ROUNDS {
         let start = Instant::now();
         let wanted = fast::run(calls, theirs, |_, _| {});
-        row.model = row.model.min(start.elapsed());
+        row.times[0] = row.times[0].min(start.elapsed());
 
         let start = Instant::now();
         let ended = day.run(ours);
-        row.engine = row.engine.min(start.elapsed());
+        row.times[1] = row.times[1].min(start.elapsed());
 
         if wanted.contains(&9) {
             return Err("a step does not fit its slice".to_string());
@@ -197,15 +199,15 @@ fn time_singles(calls: &[Call], ours: &mut [u8], theirs: &mut [u8]) -> Result<Ro
     let count = singles.numbers.len();
     ours.fill(b'.');
     theirs.fill(b'.');
-    let mut row = Row { calls: count, bytes: 0, model: Duration::MAX, engine: Duration::MAX };
+    let mut row = Row { calls: count, bytes: 0, times: [Duration::MAX; 2] };
     for _ in 0..ROUNDS {
         let start = Instant::now();
         let wanted = fast::run(calls, theirs, |_, _| {});
-        row.model = row.model.min(start.elapsed());
+        row.times[0] = row.times[0].min(start.elapsed());
 
         let start = Instant::now();
         let ended = singles.run(ours);
-        row.engine = row.engine.min(start.elapsed());
+        row.times[1] = row.times[1].min(start.elapsed());
 
         if ended != text::LAST_FRAME {
             return Err(format!("the engine ends in frame {ended}"));
@@ -229,17 +231,20 @@ fn program(path: &str, words: &[&str], day: &Path, sheet: Stdio) -> io::Result<C
     Ok(command)
 }
 
-/// The time of a whole process, whose sheet nobody reads.
-fn process(path: &str, words: &[&str], day: &Path) -> io::Result<Duration> {
-    let mut command = program(path, words, day, Stdio::null())?;
+/// The time of a whole process, whose output nobody reads.
+fn process(mut command: Command) -> io::Result<Duration> {
     let start = Instant::now();
     let status = command.status()?;
     let time = start.elapsed();
     if status.success() {
         Ok(time)
     } else {
-        Err(io::Error::other(format!("{path}: {status}")))
+        Err(io::Error::other(format!("{}: {status}", command.get_program().to_string_lossy())))
     }
+}
+
+fn lines(day: &[u8]) -> usize {
+    day.iter().filter(|&&byte| byte == b'\n').count()
 }
 
 /// The same for the two programs on one day, with its lines in place of calls.
@@ -253,14 +258,66 @@ fn time_programs(day: &[u8], file: &Path) -> Result<Row, String> {
     if sheet(SHEET, &[]).map_err(fault)?.stdout != wanted {
         return Err("the sheets differ".to_string());
     }
-    let lines = day.iter().filter(|&&byte| byte == b'\n').count();
     let bytes = wanted.len() as u64;
-    let mut row = Row { calls: lines, bytes, model: Duration::MAX, engine: Duration::MAX };
+    let mut row = Row { calls: lines(day), bytes, times: [Duration::MAX; 2] };
+    let time = |path, words: &[&str]| program(path, words, file, Stdio::null()).and_then(process);
     for _ in 0..PROGRAM_ROUNDS {
-        row.model = row.model.min(process(MODEL, &["fast"], file).map_err(fault)?);
-        row.engine = row.engine.min(process(SHEET, &[], file).map_err(fault)?);
+        row.times[0] = row.times[0].min(time(MODEL, &["fast"]).map_err(fault)?);
+        row.times[1] = row.times[1].min(time(SHEET, &[]).map_err(fault)?);
     }
     Ok(row)
+}
+
+/// The program that judges the files `day` and `sheet` of a folder.
+fn accept(folder: &Path, verdict: Stdio) -> Command {
+    let mut command = Command::new(ACCEPT);
+    command.current_dir(folder).stdin(Stdio::null()).stdout(verdict);
+    command
+}
+
+/// The middle one of an odd number of times.
+fn median(mut times: Vec<Duration>) -> Duration {
+    times.sort_unstable();
+    times[times.len() / 2]
+}
+
+/// Where sheet prints to: a file, as at the desk, or nowhere.
+#[derive(Clone, Copy)]
+enum Print {
+    File,
+    Nowhere,
+}
+
+impl Print {
+    fn to(self, folder: &Path) -> io::Result<Stdio> {
+        match self {
+            Print::File => Ok(File::create(folder.join("printed"))?.into()),
+            Print::Nowhere => Ok(Stdio::null()),
+        }
+    }
+}
+
+/// The median of some rounds, in which sheet prints the sheet of a day and accept reads both; or
+/// why there is none.
+fn time_accept(day: &[u8], folder: &Path, print: Print) -> Result<Row, String> {
+    let fault = |error: io::Error| error.to_string();
+    let file = folder.join("day");
+    fs::write(&file, day).map_err(fault)?;
+    let sheet = program(SHEET, &[], &file, Stdio::piped()).and_then(|mut sheet| sheet.output());
+    let sheet = sheet.map_err(fault)?.stdout;
+    fs::write(folder.join("sheet"), &sheet).map_err(fault)?;
+    let said = accept(folder, Stdio::piped()).output().map_err(fault)?.stdout;
+    if said != b"same\n" {
+        return Err(format!("accept says {} and not same", said.escape_ascii()));
+    }
+    let (mut printed, mut judged) = (Vec::new(), Vec::new());
+    for _ in 0..PROGRAM_ROUNDS {
+        let printing = print.to(folder).and_then(|to| program(SHEET, &[], &file, to));
+        printed.push(printing.and_then(process).map_err(fault)?);
+        judged.push(process(accept(folder, Stdio::null())).map_err(fault)?);
+    }
+    let times = [median(printed), median(judged)];
+    Ok(Row { calls: lines(day), bytes: sheet.len() as u64, times })
 }
 
 /// The days, with their letters.
@@ -274,16 +331,17 @@ fn table<C>(
     mut row: impl FnMut(C) -> Result<Row, String>,
 ) -> Result<(), String> {
     for (case, letter) in cases {
-        let Row { calls, bytes, model, engine } =
+        let Row { calls, bytes, times } =
             row(case).map_err(|difference| format!("case {letter}: {difference}"))?;
-        let [model, engine] = [model, engine].map(|time| time.as_secs_f64() * 1000.0);
-        let ratio = engine / model;
-        println!("{letter:<4}  {calls:>7}  {bytes:>13}  {model:>9.2}  {engine:>9.2}  {ratio:>6.2}");
+        let [first, second] = times.map(|time| time.as_secs_f64() * 1000.0);
+        let ratio = second / first;
+        println!("{letter:<4}  {calls:>7}  {bytes:>13}  {first:>9.2}  {second:>9.2}  {ratio:>6.2}");
     }
     Ok(())
 }
 
-fn tables(file: &Path) -> Result<(), String> {
+fn tables(folder: &Path) -> Result<(), String> {
+    let file = &folder.join("day");
     let mut ours = vec![0; MOST_LENT];
     let mut theirs = vec![0; MOST_LENT];
     println!("lists of calls, the libraries in one process");
@@ -298,14 +356,22 @@ fn tables(file: &Path) -> Result<(), String> {
     })?;
     println!("days as files, a process for each: the program fast of the model, and sheet");
     println!("case    lines  bytes printed   model ms  engine ms   ratio");
-    table(days(), |case| time_programs(&bench::day(case, text::LAST_FRAME), file))
+    table(days(), |case| time_programs(&bench::day(case, text::LAST_FRAME), file))?;
+    for (print, to) in [(Print::File, "to a file"), (Print::Nowhere, "to nowhere")] {
+        println!("sheet, which prints {to}, and accept on the same day with its right sheet");
+        println!("case    lines    sheet bytes   sheet ms  accept ms   ratio");
+        table(days(), |case| time_accept(&bench::day(case, text::LAST_FRAME), folder, print))?;
+    }
+    Ok(())
 }
 
 fn main() -> ExitCode {
-    let file = std::env::temp_dir().join(format!("bench-{}.day", std::process::id()));
-    let done = tables(&file);
+    let folder = std::env::temp_dir().join(format!("bench-{}", std::process::id()));
+    let done = fs::create_dir_all(&folder)
+        .map_err(|error| format!("{}: {error}", folder.display()))
+        .and_then(|()| tables(&folder));
     // it may not be there
-    let _ = fs::remove_file(&file);
+    let _ = fs::remove_dir_all(&folder);
     match done {
         Ok(()) => ExitCode::SUCCESS,
         Err(difference) => {

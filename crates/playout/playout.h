@@ -6,11 +6,12 @@
  *
  * A call takes plain integers, structs of them, and slices: bytes lent to it, as a pointer and a
  * length. It gives a number, and with it what it worked out (but for playout_higher, which says yes
- * or no, playout_table_empty, playout_rules and playout_version). Number 0: accepted. Any other
- * says why the call was refused, and then nothing was done: a lent struct and a lent slice are as
- * they were, a table or channel comes back as it was handed in, and all else in the answer is 0,
- * roles too. Where several numbers fit, 2 for a struct or an argument that means nothing comes
- * first; then the lowest, but for 9: it is given where the call would otherwise be accepted.
+ * or no, playout_table_empty, playout_rules, playout_version, and playout_departure, which gives a
+ * line's number). Number 0: accepted. Any other says why the call was refused, and then nothing was
+ * done: a lent struct and a lent slice are as they were, a table or channel comes back as it was
+ * handed in, and all else in the answer is 0, roles too. Where several numbers fit, 2 for a struct
+ * or an argument that means nothing comes first; then the lowest, but for 9: it is given where the
+ * call would otherwise be accepted.
  *
  * Nothing is kept between calls: no globals, no memory taken, no files, no locks. Calls on
  * different structs and bytes may run in several threads at once.
@@ -20,7 +21,8 @@
  *   read, and written too where it is not const;
  * - a pointer to a struct is not NULL and points to a whole struct that may be read and written;
  * - what is lent to one call does not overlap;
- * - there is stack enough: 512 KiB for playout_sheet, 32 KiB for any other call.
+ * - there is stack enough: 512 KiB for playout_sheet and playout_departure, 32 KiB for any other
+ *   call.
  * Everything else is checked: no integer in a struct or an argument makes a call go wrong. But what
  * decodes is taken for what it says, also a front or channel that no call made.
  */
@@ -44,7 +46,7 @@ enum {
     /* the number of the rules: servers of a group must have the same */
     PLAYOUT_RULES = 1,
     /* of the code: 1000 times the major, and the minor */
-    PLAYOUT_VERSION = 1000
+    PLAYOUT_VERSION = 1001
 };
 
 /* Why a call was refused. There is no 10. */
@@ -502,6 +504,16 @@ playout_written playout_channel_refused(playout_channel channel, uint16_t identi
  * a refused line of the day is told in the sheet. Refused with 9 (the slice is too short).
  */
 playout_written playout_sheet(const uint8_t *day, size_t day_len, uint8_t *out, size_t out_len);
+
+/*
+ * Whether a sheet is that of a whole day, as `playout_sheet` writes it: 0 where it is, byte for
+ * byte, else the number of the first line that departs. Lines are compared by their places, each
+ * with its line feed, and the header is line 1: a line that is missing counts at its place, and so
+ * does one too many. The call is never refused; the sheet of a day that is refused ends with that
+ * refusal.
+ */
+uint64_t playout_departure(const uint8_t *day, size_t day_len,
+    const uint8_t *sheet, size_t sheet_len);
 
 #ifdef __cplusplus
 }

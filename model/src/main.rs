@@ -1,6 +1,7 @@
 //! A model of the playout group: days in, sheets out, and lists of calls with their answers,
 //! written apart from the engine; and what sets other programs against it.
 
+mod accepts;
 mod bench;
 mod calls;
 mod channel;
@@ -8,8 +9,10 @@ mod compare;
 mod day;
 mod fast;
 mod generate;
+mod judge;
 mod lists;
 mod long;
+mod pairs;
 mod program;
 mod script;
 mod special;
@@ -17,7 +20,11 @@ mod text;
 mod vectors;
 
 #[cfg(test)]
+mod judge_tests;
+#[cfg(test)]
 mod list_tests;
+#[cfg(test)]
+mod pair_tests;
 #[cfg(test)]
 mod tests;
 #[cfg(test)]
@@ -26,16 +33,24 @@ mod vector_tests;
 use std::io::{self, Read, Write};
 use std::process::ExitCode;
 
-const USAGE: &str = "usage: model sheet | fast | day SEED | long SERVERS PERIOD GAP | check N |\n\
-    \x20      vectors SEED N | compare PROGRAM N SEED | lists SEED N | calls | check-calls |\n\
+const USAGE: &str =
+    "usage: model sheet | fast | judge DAY SHEET | day SEED | long SERVERS PERIOD GAP |\n\
+    \x20      check N | vectors SEED N | compare PROGRAM N SEED | pairs SEED N |\n\
+    \x20      accepts PROGRAM N SEED | lists SEED N | calls | check-calls |\n\
     \x20      bench-list CASE | bench-day CASE | time CASE\n\
     sheet, fast   a day on standard input, its sheet on standard output\n\
+    judge         `same` if the file SHEET is the sheet of the file DAY, else the number of its\n\
+    \x20             first line that departs; a file that cannot be opened counts as empty\n\
     day           a day made from a seed\n\
     long          a whole day, period at least the servers, gap 1 or more\n\
     check         sheet against fast for seeds 1 to N\n\
     vectors       N days with their sheets in one file: those made by hand, others from seeds\n\
     compare       what PROGRAM prints for N days from SEED on, against their sheets; status 1 if\n\
     \x20             one differs, 2 if PROGRAM cannot be run\n\
+    pairs         N days made from a seed, each with a sheet that is damaged in some way or none,\n\
+    \x20             and the number of its first line that departs, in one file\n\
+    accepts       what PROGRAM says of N such pairs, in a folder with the files day and sheet,\n\
+    \x20             against judge; status as of compare\n\
     lists         N short lists of calls made from a seed\n\
     calls         lists of calls on standard input, their answers on standard output\n\
     check-calls   the plain answers against fast, for lists on standard input\n\
@@ -50,6 +65,7 @@ fn main() -> ExitCode {
     let numbers: Vec<u64> = words.iter().skip(1).filter_map(|word| word.parse().ok()).collect();
     let done = match (words.as_slice(), numbers.as_slice()) {
         (["sheet"], _) => read_input().and_then(|input| print(&day::sheet(&input))),
+        (["judge", day, sheet], _) => print_verdict(day, sheet),
         (["fast"], _) => read_input().and_then(|input| fast::sheet(&input, io::stdout().lock())),
         (["day", _], &[seed]) => print(&generate::day(seed)),
         (["long", _, _, _], &[servers @ 1..=16, period @ 2..=250, gap @ 1..=2_159_999])
@@ -67,7 +83,16 @@ fn main() -> ExitCode {
         },
         (["compare", program, count, seed], _) => {
             return match (count.parse(), seed.parse()) {
-                (Ok(count), Ok(seed)) => compare_with(program, count, seed),
+                (Ok(count), Ok(seed)) => status(program::compare(program, count, seed)),
+                _ => usage(),
+            }
+        }
+        (["pairs", _, _], &[seed, count]) => {
+            print(&pairs::write(&pairs::pairs(seed, count as usize)))
+        }
+        (["accepts", program, count, seed], _) => {
+            return match (count.parse(), seed.parse()) {
+                (Ok(count), Ok(seed)) => status(accepts::accepts(program, count, seed)),
                 _ => usage(),
             }
         }
@@ -123,6 +148,11 @@ fn print_answers(list: &[calls::Call]) -> io::Result<()> {
     print(&answers.map_err(|line| bad_line(line, "a call without a channel"))?)
 }
 
+fn print_verdict(day: &str, sheet: &str) -> io::Result<()> {
+    let verdict = judge::judge(&judge::read(day)?, &judge::read(sheet)?)?;
+    print(judge::said(verdict).as_bytes())
+}
+
 /// Stops at the first call that the two programs answer in different ways.
 fn check_calls(list: &[calls::Call]) -> io::Result<()> {
     match compare::compare(list) {
@@ -147,9 +177,9 @@ fn print(bytes: &[u8]) -> io::Result<()> {
     out.flush()
 }
 
-/// Stops at the first day whose sheet by the program differs.
-fn compare_with(program: &str, count: u64, seed: u64) -> ExitCode {
-    match program::compare(program, count, seed) {
+/// Of a comparison with a program, which stops at the first difference.
+fn status(compared: Result<bool, String>) -> ExitCode {
+    match compared {
         Ok(true) => ExitCode::SUCCESS,
         Ok(false) => ExitCode::FAILURE,
         Err(message) => {

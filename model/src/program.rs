@@ -6,7 +6,7 @@ use crate::{day, fast, generate, long};
 use std::fs;
 use std::io::{self, Read, Write};
 use std::path::{Path, PathBuf};
-use std::process::{Command, Stdio};
+use std::process::{Child, Command, Stdio};
 use std::sync::mpsc;
 use std::thread;
 use std::time::Duration;
@@ -119,7 +119,8 @@ pub fn tampered(rng: &mut Rng, mut day: Vec<u8>) -> Vec<u8> {
     day
 }
 
-fn sheet_of(day: &[u8]) -> io::Result<Vec<u8>> {
+/// The sheet by the model that suits the day.
+pub fn sheet_of(day: &[u8]) -> io::Result<Vec<u8>> {
     if day.len() < SHORT && reach(day) < NEAR {
         return Ok(day::sheet(day));
     }
@@ -130,10 +131,12 @@ fn sheet_of(day: &[u8]) -> io::Result<Vec<u8>> {
 
 // The program
 
-struct Run {
-    output: Vec<u8>,
+const NO_PIPE: &str = "the pipes of the program are missing: try again";
+
+pub struct Run {
+    pub output: Vec<u8>,
     /// What is wrong with the way in which it ended.
-    fault: Option<String>,
+    pub fault: Option<String>,
 }
 
 /// Runs the program with the day on its standard input.
@@ -143,15 +146,17 @@ fn run(program: &str, day: &[u8], expected: usize) -> Result<Run, String> {
         .stdout(Stdio::piped())
         .spawn()
         .map_err(|error| cannot_run(program, &error))?;
-    let (mut input, output) = match (child.stdin.take(), child.stdout.take()) {
-        (Some(input), Some(output)) => (input, output),
-        _ => return Err(String::from("the pipes of the program are missing: try again")),
-    };
-    let (sender, receiver) = mpsc::channel();
+    let mut input = child.stdin.take().ok_or(NO_PIPE)?;
     let day = day.to_vec();
     // a program may stop reading before the end of the day, after a refusal
     thread::spawn(move || drop(input.write_all(&day)));
-    let most = expected as u64 + BEYOND;
+    watch(child, expected as u64 + BEYOND)
+}
+
+/// What a program prints, `most` bytes of it; it is stopped if it takes too long.
+pub fn watch(mut child: Child, most: u64) -> Result<Run, String> {
+    let output = child.stdout.take().ok_or(NO_PIPE)?;
+    let (sender, receiver) = mpsc::channel();
     thread::spawn(move || {
         let mut bytes = Vec::new();
         let _ = output.take(most).read_to_end(&mut bytes);
@@ -172,7 +177,7 @@ fn run(program: &str, day: &[u8], expected: usize) -> Result<Run, String> {
     Ok(Run { output, fault })
 }
 
-fn cannot_run(program: &str, error: &io::Error) -> String {
+pub fn cannot_run(program: &str, error: &io::Error) -> String {
     let path = Path::new(program);
     let advice = match error.kind() {
         io::ErrorKind::NotFound if path.exists() && !program.contains('/') => {

@@ -1,6 +1,6 @@
 //! The picture: one row a server, in SVG.
 
-use crate::sheet::{Kind, Mark, Role, Row, Sheet, FRAMES_A_SECOND};
+use crate::sheet::{Departure, Kind, Mark, Place, Role, Row, Sheet, FRAMES_A_SECOND};
 use crate::spans::{columns, heights, is_narrow, spans, thin, Scale, Shares, Span, Tenths};
 use crate::words::{brief, count, escape, length, with_reason, wrap, Time};
 use std::fmt::{self, Write};
@@ -43,6 +43,8 @@ text{font-family:'DejaVu Sans',Verdana,Arial,sans-serif;font-size:11px;fill:#111
 .reveal{fill:#fff;stroke:#111;stroke-width:1.2}.pass{fill:#e07b00;stroke:#111}\
 .cut{fill:none;stroke:#111;stroke-width:2;pointer-events:all}\
 .mended{fill:none;stroke:#111;stroke-width:1.6;pointer-events:all}.refused{fill:#c00000}\
+.departs{fill:none;stroke:#c00000;stroke-width:2;stroke-dasharray:7 2}\
+.departed{font-weight:bold;fill:#c00000;text-anchor:middle}\
 .grid{stroke:#c4c4c4;stroke-width:.7}.axis{stroke:#444;fill:none}.row{stroke:#999;stroke-width:.5}";
 
 const PATTERNS: &str = "\
@@ -284,7 +286,9 @@ impl<'a> Page<'a> {
         let mut y = self.head(name);
         y = self.legend(y);
         if let Some(scale) = scale(self.sheet) {
-            y = self.rows(y + 24, scale);
+            // room for the label of a line that departs
+            let above = if self.sheet.departure.is_some() { 42 } else { 24 };
+            y = self.rows(y + above, scale);
         }
         y = self.notes(y + 18);
         let head = format!(
@@ -322,7 +326,28 @@ impl<'a> Page<'a> {
         let rows = std::mem::replace(&mut self.out, body);
         self.axis(top, y, scale);
         self.out += &rows;
+        if let Some(departure) = self.sheet.departure {
+            self.departure(departure, top, y, scale);
+        }
         y + 22
+    }
+
+    /// A line down the rows where the sheet departs, with its label above the axis.
+    fn departure(&mut self, departure: Departure, top: u32, bottom: u32, scale: Scale) {
+        let x = LEFT * 10 + departure_x(departure.place, self.sheet, scale);
+        let label = departure_label(departure);
+        let half = label.chars().count() as Tenths * 37;
+        let middle = x.clamp(half, WIDTH * 10 - half);
+        put!(
+            self.out,
+            "<g><title>{}</title><path class=\"departs\" d=\"M{} {}V{bottom}\"/>\
+             <text class=\"departed\" x=\"{}\" y=\"{}\">{label}</text></g>\n",
+            escape(&departure_note(departure)),
+            Px(x),
+            top - 22,
+            Px(middle),
+            top - 26
+        );
     }
 
     /// Grid, ticks and labels, above and below the rows.
@@ -608,6 +633,9 @@ impl<'a> Page<'a> {
                 y += 17;
             }
         };
+        if let Some(departure) = sheet.departure {
+            note("note", &departure_note(departure));
+        }
         if let Some((line, number)) = sheet.refusal {
             note(
                 "note",
@@ -637,6 +665,48 @@ impl<'a> Page<'a> {
         );
         y
     }
+}
+
+/// Its own time, or the nearest place that is drawn.
+fn departure_x(place: Place, sheet: &Sheet, scale: Scale) -> Tenths {
+    let frame = match place {
+        Place::Header => scale.from,
+        Place::Frame(frame) => frame.clamp(scale.from, scale.to),
+        Place::NoTime => sheet.times.map_or(scale.from, |(_, last)| last),
+        Place::End => scale.to,
+    };
+    scale.x(frame)
+}
+
+fn departure_label(departure: Departure) -> String {
+    let line = departure.line;
+    match departure.place {
+        Place::Frame(_) => format!("line {line} departs"),
+        Place::Header => format!("line {line}, the header, departs"),
+        Place::NoTime => format!("line {line} departs (it has no time)"),
+        Place::End => format!("line {line} departs (the sheet has ended)"),
+    }
+}
+
+fn departure_note(departure: Departure) -> String {
+    let line = departure.line;
+    let mut note = match departure.place {
+        Place::Frame(frame) => {
+            format!("Line {line}, {}, departs from the sheet of the day.", Time(frame))
+        }
+        Place::Header => format!("Line {line}, the header, departs from the sheet of the day."),
+        Place::NoTime => format!(
+            "Line {line} departs from the sheet of the day. It has no time, and is marked at the \
+             last line before it that has one."
+        ),
+        Place::End => format!(
+            "The sheet departs at line {line}, which it does not have: it is marked at the end."
+        ),
+    };
+    if !departure.whole {
+        note += " From there on it cannot be read as a sheet: only the lines before are drawn.";
+    }
+    note
 }
 
 /// The places of items that go together, in runs of at most so many.
@@ -705,7 +775,7 @@ fn marks_title(row: &Row, kind: Kind, lines: Range<usize>) -> String {
 #[cfg(test)]
 mod tests {
     use super::*;
-    use crate::sheet::read;
+    use crate::sheet::{read, read_departed};
 
     fn picture(lines: &str) -> String {
         let text = format!("time server what\n{lines}").replace(' ', "\t");
@@ -732,6 +802,83 @@ mod tests {
         }
         assert!(picture.contains(">1</text>") && picture.contains(">2</text>"));
         assert!(picture.contains(">end</text>"));
+    }
+
+    /// The picture of a sheet that departs at a line.
+    fn departed(lines: &str, line: usize) -> String {
+        let text = format!("time server what\n{lines}").replace(' ', "\t");
+        draw(&read_departed(text.as_bytes(), line).expect("a departure"), "sheet")
+    }
+
+    /// Where the mark stands, in tenths of a pixel from the plot's left edge.
+    fn marked_at(picture: &str) -> Tenths {
+        let path = picture.split("class=\"departs\" d=\"M").nth(1).expect("a mark");
+        let x = path.split(' ').next().expect("a place");
+        let (whole, tenth) = x.split_once('.').unwrap_or((x, "0"));
+        let tenths = |text: &str| text.parse::<Tenths>().expect("a number");
+        tenths(whole) * 10 + tenths(tenth) - LEFT * 10
+    }
+
+    const FOUR: &str = "00:00:00:00 1 sync\n00:00:00:04 1 backup\n00:00:00:09 1 cut\n\
+                        line 5 refused-1\n";
+
+    #[test]
+    fn the_line_that_departs_is_marked_at_its_time() {
+        for (line, place, label) in [
+            (1, 0, "line 1, the header, departs"),
+            (2, 0, "line 2 departs"),
+            (3, 5_760, "line 3 departs"),
+            (4, 12_960, "line 4 departs"),
+            // the refusal has no time, and there is no line 6
+            (5, 12_960, "line 5 departs (it has no time)"),
+            (6, 14_400, "line 6 departs (the sheet has ended)"),
+        ] {
+            let picture = departed(FOUR, line);
+            assert_eq!(marked_at(&picture), place, "line {line}");
+            assert!(picture.contains(&format!(">{label}</text>")), "{label}");
+            assert!(picture.contains("cut</title>"), "all lines are drawn");
+        }
+        assert!(!picture(FOUR).contains("departs</"));
+        assert!(!picture(FOUR).contains("class=\"departs\""));
+    }
+
+    #[test]
+    fn what_cannot_be_read_is_not_drawn() {
+        let lines = "00:00:00:00 1 sync\n00:00:00:04 1 backup\n<&\0>\n00:00:00:02 1 cut\n";
+        let picture = departed(lines, 4);
+        assert_eq!(marked_at(&picture), 11_520);
+        assert!(picture.contains("line 4 departs (it has no time)"));
+        assert!(picture.contains("only the lines before are drawn"));
+        assert!(!picture.contains("cut</title>") && !picture.contains('\0'));
+        // a time beyond what is drawn
+        let picture = departed("00:00:00:00 1 sync\n00:00:01:00 1 beat\n\0\n", 3);
+        assert_eq!(marked_at(&picture), 14_400);
+        // nothing is left to draw
+        let picture = departed("00:00:00:04 1 sync\n00:00:01:00 1 bea\n00:00:00:05 1 lower\n", 2);
+        assert!(picture.contains("Line 2, 00:00:00:04, departs"));
+        assert!(!picture.contains("class=\"departs\""), "there is no axis");
+    }
+
+    #[test]
+    fn a_departure_without_an_axis_is_a_note() {
+        for (lines, line) in [("", 1), ("", 2), ("line 1 refused-4\n", 2), ("x\n", 2), ("x\n", 1)] {
+            let picture = departed(lines, line);
+            assert!(!picture.contains("class=\"departs\""));
+            assert!(picture.contains("departs"), "{lines} {line}");
+            assert!(picture.contains(&format!("ine {line}")), "{lines} {line}");
+        }
+    }
+
+    #[test]
+    fn the_label_stays_in_the_picture() {
+        for line in 1..=6 {
+            let picture = departed(FOUR, line);
+            let label = picture.split("class=\"departed\" x=\"").nth(1).expect("a label");
+            let x: f64 = label.split('"').next().expect("a place").parse().expect("a number");
+            let text = label.split('>').nth(1).expect("a text").split('<').next().expect("its end");
+            let half = text.chars().count() as f64 * 3.7;
+            assert!(x >= half && x + half <= f64::from(WIDTH), "{text} at {x}");
+        }
     }
 
     #[test]

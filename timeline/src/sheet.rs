@@ -1,5 +1,6 @@
 //! A sheet, read: for each server the roles it entered and its other lines.
 
+use crate::words::count;
 use std::fmt;
 
 pub const FRAMES_A_SECOND: u32 = 25;
@@ -112,6 +113,27 @@ impl Row {
     }
 }
 
+/// Where the line that departs stands in the picture.
+#[derive(Clone, Copy, Debug, PartialEq, Eq)]
+pub enum Place {
+    /// It is line 1.
+    Header,
+    Frame(u32),
+    /// It is the refusal that ends the sheet, or no line of a sheet.
+    NoTime,
+    /// The sheet has ended before it.
+    End,
+}
+
+/// The first line at which a sheet is not that of its day.
+#[derive(Clone, Copy, Debug, PartialEq, Eq)]
+pub struct Departure {
+    pub line: usize,
+    pub place: Place,
+    /// Whether the lines from it on are those of a sheet, and drawn.
+    pub whole: bool,
+}
+
 #[derive(Debug, Default)]
 pub struct Sheet {
     /// In rising identity; the row of `end`, if any, is the last.
@@ -122,6 +144,7 @@ pub struct Sheet {
     pub times: Option<(u32, u32)>,
     /// The line of the day and the number of an input refusal.
     pub refusal: Option<(u32, u8)>,
+    pub departure: Option<Departure>,
 }
 
 /// Why some bytes are no sheet.
@@ -131,7 +154,15 @@ pub enum Fault {
     Header,
     Spaces,
     Day,
-    Line { line: usize, text: String, why: &'static str },
+    Line {
+        line: usize,
+        text: String,
+        why: &'static str,
+    },
+    /// It has too few lines to depart where it is said to.
+    Beyond {
+        lines: usize,
+    },
 }
 
 impl fmt::Display for Fault {
@@ -162,6 +193,13 @@ impl fmt::Display for Fault {
                 "line {line}, `{text}`, {why}. Give the file as the sheet program wrote it, whole \
                  and unchanged."
             ),
+            Fault::Beyond { lines } => write!(
+                f,
+                "it has {}, and so departs at line {} or before it. Give the number that ./accept \
+                 says of this very sheet.",
+                count(*lines, "line", "lines"),
+                lines + 1
+            ),
         }
     }
 }
@@ -184,6 +222,35 @@ pub fn read(bytes: &[u8]) -> Result<Sheet, Fault> {
     }
     sheet.rows.sort_by_key(|row| (row.identity == 0, row.identity));
     Ok(sheet)
+}
+
+/// A sheet that departs at this line. From there on it may be no sheet: then only what comes before
+/// the line is read.
+pub fn read_departed(bytes: &[u8], line: usize) -> Result<Sheet, Fault> {
+    let lines: Vec<&[u8]> = bytes.split_inclusive(|&byte| byte == b'\n').collect();
+    if line > lines.len() + 1 {
+        return Err(Fault::Beyond { lines: lines.len() });
+    }
+    let before = lines[..line - 1].concat();
+    let (mut sheet, whole) = match read(bytes) {
+        Ok(sheet) => (sheet, true),
+        Err(_) if before.is_empty() => (Sheet::default(), false),
+        Err(_) => (read(&before)?, false),
+    };
+    let place = match lines.get(line - 1) {
+        None => Place::End,
+        Some(_) if line == 1 => Place::Header,
+        Some(text) => place(text),
+    };
+    sheet.departure = Some(Departure { line, place, whole });
+    Ok(sheet)
+}
+
+fn place(text: &[u8]) -> Place {
+    match read_line(without_return(text.strip_suffix(b"\n").unwrap_or(text))) {
+        Ok(Line::Server { frame, .. }) => Place::Frame(frame),
+        _ => Place::NoTime,
+    }
 }
 
 fn fault(line: usize, text: &[u8], why: &'static str) -> Fault {
@@ -419,6 +486,63 @@ mod tests {
         assert_eq!(faulty_line("line 2 refused-1\n00:00:00:01 1 backup\n"), 3);
         let many: String = (1..=17).map(|i| format!("00:00:00:00 {i} sync\n")).collect();
         assert_eq!(faulty_line(&many), 18);
+    }
+
+    fn departed(lines: &str, line: usize) -> Result<Sheet, Fault> {
+        read_departed(format!("time server what\n{lines}").replace(' ', "\t").as_bytes(), line)
+    }
+
+    const THREE: &str = "00:00:00:00 1 sync\n00:00:00:04 1 backup\nline 5 refused-1\n";
+
+    #[test]
+    fn the_line_that_departs_has_a_place() {
+        let place = |line| departed(THREE, line).expect("a sheet").departure.expect("a departure");
+        let places = [Place::Header, Place::Frame(0), Place::Frame(4), Place::NoTime, Place::End];
+        for (at, expected) in places.into_iter().enumerate() {
+            assert_eq!(place(at + 1), Departure { line: at + 1, place: expected, whole: true });
+        }
+        assert_eq!(departed(THREE, 6).err(), Some(Fault::Beyond { lines: 4 }));
+        assert!(sheet(THREE).expect("a sheet").departure.is_none());
+        // a last line without its line feed is there, and so is one with a carriage return
+        let bytes = b"time\tserver\twhat\n00:00:00:07\t1\tsync\r\n00:00:00:08\t1\tbackup";
+        for (line, frame) in [(2, 7), (3, 8)] {
+            let departure = read_departed(bytes, line).expect("a sheet").departure;
+            assert_eq!(departure.map(|at| at.place), Some(Place::Frame(frame)));
+        }
+    }
+
+    #[test]
+    fn what_is_no_sheet_may_depart_at_that_line_or_before_it() {
+        let lines = "00:00:00:02 1 sync\n00:00:00:03 1 backup\n00:00:00:01 1 sync\n\0\n";
+        assert_eq!(faulty_line(lines), 4);
+        let read = |line| departed(lines, line).expect("a sheet");
+        let seen = |line| (read(line).lines, read(line).departure.expect("a departure").place);
+        assert_eq!(seen(4), (2, Place::Frame(1)));
+        assert_eq!(seen(3), (1, Place::Frame(3)));
+        assert_eq!(seen(2), (0, Place::Frame(2)));
+        assert_eq!(seen(1), (0, Place::Header));
+        assert!(!read(3).departure.expect("a departure").whole);
+        // a fault before the line is one of the sheet
+        assert!(matches!(departed(lines, 5), Err(Fault::Line { line: 4, .. })));
+        assert_eq!(
+            departed("x\n", 2).expect("a sheet").departure.map(|at| at.place),
+            Some(Place::NoTime)
+        );
+    }
+
+    #[test]
+    fn no_header_at_all_departs_at_line_1() {
+        for (bytes, place) in [
+            (&b""[..], Place::End),
+            (b"\0\r\n\xff", Place::Header),
+            (b"period\t2\n", Place::Header),
+        ] {
+            let sheet = read_departed(bytes, 1).expect("a departure");
+            assert_eq!(sheet.departure, Some(Departure { line: 1, place, whole: false }));
+            assert!(sheet.rows.is_empty() && read(bytes).is_err());
+        }
+        assert_eq!(read_departed(b"period\t2\n", 2).err(), Some(Fault::Day));
+        assert_eq!(read_departed(b"", 2).err(), Some(Fault::Beyond { lines: 0 }));
     }
 
     #[test]

@@ -18,10 +18,10 @@ use Rattle.feed.specs.Answers.{Begins}
 use Rattle.printer.specs.declared.Printed.{Printed}
 use Rattle.printer.specs.Answers.{Prints}
 use Rattle.printer.specs.Laws.{Call, answer, Calls, none, Moves}
+use Rattle.printer.proofs.Told.{begun-to, printed-to}
 use Rattle.printer.proofs.Laws.{call-more, laws}
 use Rattle.daysheet.specs.declared.Spent.{Spent}
 use Rattle.daysheet.specs.Steps.{Spends}
-use Rattle.daysheet.proofs.Answers.{begun-to, printed-to}
 
 -- calls so far, over the first i bytes, and what they and the header left of the room
 pub record Counting (s : List ℕ) (room : ℕ) (f : Fed) (left i : ℕ) : Type 0 where

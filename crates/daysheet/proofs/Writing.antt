@@ -19,11 +19,10 @@ use Rattle.feed.specs.Answers.{Begins}
 use Rattle.feed.proofs.Pairing.{part-written}
 use Rattle.printer.specs.declared.Printed.{Printed}
 use Rattle.printer.specs.Print.{Print}
-use Rattle.printer.specs.Answers.{Prints}
+use Rattle.printer.specs.Answers.{writtenBytes, Prints}
 use Rattle.printer.specs.Laws.{Call, answer, isShort, none}
+use Rattle.printer.proofs.Told.{begun-to, begun-slice, printed-to}
 use Rattle.printer.proofs.Laws.{call-more, laws}
-use Rattle.daysheet.specs.Steps.{writtenBytes}
-use Rattle.daysheet.proofs.Answers.{begun-to, begun-slice, printed-to}
 
 module _ (s : List ℕ) {d : List ℕ} {b : Step} {d₁ : List ℕ} {at : ℕ} (begun : Begins d b d₁) (fit : length (sheet s) ≤ length d) (end : at ≡ writtenBytes (b .written)) where
   sheet-long : length (sheet s) ≡ length header + length (remaining beginning s)

@@ -3,13 +3,8 @@ use mathlib.Core.Path.{_≡_}
 use mathlib.Core.Bool.{true, false}
 use Prim.Native.Nat.{ℕ, _+_, _≤_, _<_}
 use Rattle.text.specs.declared.Written.{Written}
-use Rattle.text.specs.declared.Written.the-variants.{To, Refused}
+use Rattle.text.specs.declared.Written.the-variants.{To}
 use Rattle.daysheet.specs.declared.Spent.{Spent}
-
--- how many bytes were written
-abbrev pub writtenBytes : Written → ℕ
-writtenBytes (To n) = n
-writtenBytes (Refused k) = 0
 
 -- bytes that fit into what is left
 pub record Spends (p : Written) (left : ℕ) (r : Spent) : Type 0 where

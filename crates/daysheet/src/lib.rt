@@ -10,7 +10,7 @@ ghost use lib.ListN.{length};
 ghost use Rattle.text.specs.Write.{Writes};
 ghost use Rattle.day.specs.Sheet.{sheet};
 ghost use Rattle.feeding.specs.Bound.{stepBytes};
-ghost use Rattle.daysheet.specs.Steps.{Spends, writtenBytes};
+ghost use Rattle.daysheet.specs.Steps.{Spends};
 
 // Whether bytes fit into what is left, and what is left then.
 struct Spent {
@@ -33,16 +33,6 @@ fn spend(written: Written, left: usize) -> Spent
             }
         }
         Written::Refused(_) => Spent { fits: false, left },
-    }
-}
-
-// The place after a write at a slice's start; where it was refused, the start.
-fn end(written: Written) -> usize
-    ensures { λ r. ⌜ r ≡ writtenBytes written ⌝ }
-{
-    match written {
-        Written::To(n) => n,
-        Written::Refused(_) => 0,
     }
 }
 
@@ -94,7 +84,7 @@ fn write(day: &[u8], out: &mut [u8]) -> usize
     let begun = Feed::begin(out);
     let header = begun.written;
     let feed = begun.feed;
-    let at = end(header);
+    let at = printer::bytes(header);
     let mut line = [0; Feed::LINE];
     let mut words = [0; places::PACKED];
     let mut whole = [true; Table::LINKS];
@@ -108,7 +98,7 @@ fn write(day: &[u8], out: &mut [u8]) -> usize
         &mut out[at..],
     );
     let written = printed.written;
-    at + end(written)
+    at + printer::bytes(written)
 }
 
 // The sheet of a whole day, at the slice's start; 9 where it does not fit, and then no byte is

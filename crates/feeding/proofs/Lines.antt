@@ -4,7 +4,7 @@ use mathlib.Core.Path.{_≡_, refl, sym, ap, _∙_}
 use mathlib.Core.List.{List, [], _∷_, _++_}
 use Prim.Native.Nat.{ℕ, suc, _+_, _-_, _≤_, _<_}
 use native.Mathlib.Omega.{arith}
-use borrow.Author.Tests.{leb-true, eqb-true, eq-eqb, ne-eqb}
+use borrow.Author.Tests.{leb-true, eqb-true, eq-eqb}
 use lib.Dec.{leb, eqb}
 use lib.ListN.{length, getD, length-append, List·getD-append}
 use lib.Seq.{getD-append-seam}
@@ -13,18 +13,8 @@ use Rattle.lists.proofs.Cases.{equal, on, clash, refuted, other, fst-true, snd-
 use Rattle.lists.proofs.Parts.{here, later}
 use Rattle.refusal.specs.Answer.{Answer}
 use Rattle.text.specs.Line.{lineLimit, readLine}
-use Rattle.day.specs.Read.{wrong, linesIn, lineRead}
+use Rattle.day.specs.Read.{wrong, lineRead}
 use Rattle.feeding.specs.Fed.{enough, wholeLine, before}
-
--- ---- lines of the input
-
-pub lines-feed : (s : List ℕ) → linesIn (10 ∷ s) ≡ (10 ∷ []) ∷ linesIn s
-unfolding linesIn
-lines-feed s = refl
-
-pub lines-byte : (x : ℕ) (s : List ℕ) → (x ≡ 10 → ⊥) → linesIn (x ∷ s) ≡ onFirst x (linesIn s)
-unfolding linesIn
-lines-byte x s h = rw (ne-eqb x 10 h, linesIn)
 
 -- ---- bytes put before a line
 

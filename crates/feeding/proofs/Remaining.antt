@@ -14,7 +14,8 @@ use Rattle.day.specs.Day.{Day, stop, go, effectOf, lastLine}
 use Rattle.day.specs.Sheet.{inputRefusal, sheetFrom}
 use Rattle.feeding.specs.Fed.{Fed, enough, wholeLine, closed, withByte, taken, takenBytes, before, linesLeft, remaining}
 use Rattle.feeding.proofs.Taking.{or-so, or-not, whole-last, taken-more, count-more, taken-none, count-none}
-use Rattle.feeding.proofs.Lines.{lines-feed, lines-byte, before-line, before-none, before-more, too-long}
+use Rattle.day.proofs.Lines.{lines-feed, lines-byte}
+use Rattle.feeding.proofs.Lines.{before-line, before-none, before-more, too-long}
 
 module _ (f : Fed) (s : List ℕ) where
   pub left-over : f .over ≡ true → remaining f s ≡ []

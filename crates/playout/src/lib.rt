@@ -33,6 +33,7 @@ ghost use Rattle.group.specs.Advance.{stepOutcome, timeOutcome};
 ghost use Rattle.group.specs.Verbs.{verbOutcome};
 ghost use Rattle.channel.specs.Answers.{state};
 ghost use Rattle.day.specs.Sheet.{sheet};
+ghost use Rattle.departure.specs.Departure.{lineNumber, judged};
 ghost use Rattle.settling.specs.Sending.{sends};
 ghost use Rattle.plain.specs.Numbers.{isVerb, verbOf, isEvent, isRefusal, refusalOf};
 ghost use Rattle.plain.specs.Plain.{isFront, isHeartbeat, heartbeatOf, isChannel, channelOf, noChannel};
@@ -168,7 +169,7 @@ const ILL: u32 = 2;
 // ---- what it is
 
 // The version of the code.
-pub const VERSION: u32 = 1000;
+pub const VERSION: u32 = 1001;
 
 // The number of the rules that this library plays by: 1 for document 01, one more with every change
 // of the rules that a sheet can show. All servers of a group compare theirs before they play; those
@@ -896,4 +897,16 @@ pub extern "C" fn playout_sheet(day: &[u8], out: &mut [u8]) -> PlainWritten
     ensures { λ r. ⌜ Puts (now (out .entry)) (sheet (now (day .entry))) r (now (out .exit)) ⌝ }
 {
     written_of(daysheet::sheet(day, out))
+}
+
+// Whether a sheet is that of a whole day, as `playout_sheet` writes it: 0 where it is, byte for byte,
+// else the number of the first line that departs. Lines are compared by their places, each with its
+// line feed, and the header is line 1: a line that is missing counts at its place, and so does one
+// too many. The call is never refused; the sheet of a day that is refused ends with that refusal.
+#[no_mangle]
+pub extern "C" fn playout_departure(day: &[u8], sheet: &[u8]) -> u64
+    ensures { λ r. ⌜ r ≡ lineNumber (judged (now (day .entry)) (now (sheet .entry))) ⌝ }
+{
+    let departure = dayjudge::departure(day, sheet);
+    departure.number()
 }

@@ -57,7 +57,7 @@ calls-left : {f g : Fed} {s t w : List ℕ} {cs : List Call} → Calls f s cs w 
 calls-left none = refl
 calls-left {f} (next {w = w} {c = c} is all r) = prints-then f c is all ∙ ap (λ (x : List ℕ). answer f c .lines ++ x) (calls-left r) ∙ sym (append-assoc (answer f c .lines) w _)
 
-calls-bounded : {f g : Fed} {s t w : List ℕ} {cs : List Call} → Calls f s cs w g t → Bounded f → Bounded g
+pub calls-bounded : {f g : Fed} {s t w : List ℕ} {cs : List Call} → Calls f s cs w g t → Bounded f → Bounded g
 calls-bounded none q = q
 calls-bounded {f} (next {c = c} is all r) q = calls-bounded r (keeps-bounds f (c .piece) (c .last) (c .room) q)
 

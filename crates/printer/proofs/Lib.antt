@@ -6,3 +6,4 @@ pub mod Making
 pub mod Leaving
 pub mod Running
 pub mod Answering
+pub mod Told

@@ -68,7 +68,7 @@ busy-more f s last o (inl h) = and-true (ap not o) (busy-piece (waits f) (ltb 0 
 busy-more f s last o (inr h) = and-true (ap not o) (busy-end (waits f) (ltb 0 (length s)) last h)
 
 -- why a turn does nothing, or something
-idle-why : (o w n l : Bool) → (not o && (w || (n || l))) ≡ false → (o ≡ true) ⊎ ((w ≡ false) × (n ≡ false) × (l ≡ false))
+pub idle-why : (o w n l : Bool) → (not o && (w || (n || l))) ≡ false → (o ≡ true) ⊎ ((w ≡ false) × (n ≡ false) × (l ≡ false))
 idle-why true w n l e = inl refl
 idle-why false w n l e = let p = or-false w (n || l) e in let q = or-false n l (p .1) in inr (p .0, q .0, q .1)
 
@@ -148,7 +148,7 @@ due-few c (server i p) h = omega arith
 due-few c (entry t v a b) h = by-choice (λ (n : ℕ). n ≤ dayLength) (known c v a b) (λ e. let l = h .0 in omega arith) (λ e. omega arith)
 due-few c (end t) h = omega arith
 
-steps-few : (f : Fed) → stepsLeft f < dayLength + 2
+pub steps-few : (f : Fed) → stepsLeft f < dayLength + 2
 unfolding stepsLeft dueFrames
 steps-few f =
     by-choice (λ (n : ℕ). n < dayLength + 2) (waits f)

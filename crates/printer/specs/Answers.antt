@@ -8,7 +8,8 @@ use Rattle.lists.specs.Choice.{choose}
 use Rattle.lists.specs.Splice.{splice}
 use Rattle.refusal.specs.declared.Refusal.{Refusal}
 use Rattle.refusal.specs.Answer.{accepted, refused}
-use Rattle.text.specs.declared.Written.the-variants.{Refused}
+use Rattle.text.specs.declared.Written.{Written}
+use Rattle.text.specs.declared.Written.the-variants.{To, Refused}
 use Rattle.text.specs.Write.{ofWritten}
 use Rattle.feeding.specs.Fed.{Fed}
 use Rattle.feed.specs.declared.Feed.{Feed}
@@ -16,6 +17,11 @@ use Rattle.feed.specs.Answers.{fedOf, Leaves}
 use Rattle.printer.specs.declared.Printed.{Printed}
 use Rattle.printer.specs.Print.{print, short}
 use Rattle.printer.specs.Laws.{Laws}
+
+-- how many bytes were written
+abbrev pub writtenBytes : Written → ℕ
+writtenBytes (To n) = n
+writtenBytes (Refused k) = 0
 
 -- the piece s, the last or not, and the lent slice d: 9 where the slice is too short for the next
 -- lines, and then nothing is taken, written or changed (`ShortDoesNothing`)

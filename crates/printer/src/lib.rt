@@ -10,7 +10,7 @@ ghost use mathlib.Core.List.{[], _∷_};
 ghost use Rattle.lists.specs.Choice.{choose};
 ghost use Rattle.refusal.specs.Answer.{accepted, refused};
 ghost use Rattle.text.specs.Write.{ofWritten};
-ghost use Rattle.printer.specs.Answers.{PrintsIn};
+ghost use Rattle.printer.specs.Answers.{writtenBytes, PrintsIn};
 ghost use Rattle.printer.specs.Steps.{putBy, Ends, TurnsIn, RunsIn};
 
 // How many bytes of the piece were taken, how many were written, and whether the sheet is over; 9
@@ -57,6 +57,16 @@ fn put_by(written: Written) -> Put
             fits: false,
             bytes: 0,
         },
+    }
+}
+
+// How many bytes were written; 0 where that was refused.
+pub fn bytes(written: Written) -> usize
+    ensures { λ r. ⌜ r ≡ writtenBytes written ⌝ }
+{
+    match written {
+        Written::To(n) => n,
+        Written::Refused(_) => 0,
     }
 }
 

@@ -22,7 +22,7 @@ use Rattle.vectors.specs.Check.{checkOf}
 use Rattle.vectors.specs.declared.Found.{Found}
 use Rattle.vectors.specs.declared.Found.the-variants.{Agrees, Length, Bytes, Check, TooLong}
 use Rattle.vectors.specs.declared.Line.{Line}
-use Rattle.vectors.specs.Days.{compared, sheetCompared, part, dayOf, dayAt, shownAt, foundAt, agreeing}
+use Rattle.vectors.specs.Days.{compared, sheetCompared, part, dayOf, dayAt, shownAt, foundAt}
 
 not-so : (t : Bool) → not t ≡ true → t ≡ false
 not-so true e = sym e
@@ -96,10 +96,3 @@ module _ (s : List ℕ) (l : Line) {d : List ℕ} {r : Written} {d′ : List ℕ
   pub no-day : (j : Refusal) → r ≡ Refused j → TooLong ≡ foundAt s l d o
   unfolding foundAt
   no-day j e = sym (other _ (unfitted v j e))
-
-pub agree-small : (f : Found) → agreeing f ≤ 1
-agree-small Agrees = omega arith
-agree-small Length = omega arith
-agree-small Bytes = omega arith
-agree-small Check = omega arith
-agree-small TooLong = omega arith

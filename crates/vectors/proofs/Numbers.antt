@@ -20,7 +20,9 @@ use Rattle.text.specs.Number.{ofNumber, readNumber}
 use Rattle.text.proofs.Reading.{number-within}
 use Rattle.vectors.specs.declared.Number.{Number}
 use Rattle.vectors.specs.declared.Line.{Line}
-use Rattle.vectors.specs.Days.{ofField, withField, nextIn, nextNumber, numberAt, lineAt}
+use Rattle.vectors.specs.declared.Pair.{Pair}
+use Rattle.vectors.specs.Days.{startAt, ofField, withField, nextIn, nextNumber, lineAt}
+use Rattle.vectors.specs.Pairs.{pairAt}
 
 module _ (p : Number) (at greatest : ℕ) (s : List ℕ) {a : NumberAnswer} (e : ofNumber a ≡ readNumber 0 greatest s) where
   pub field-is : (n : ℕ) → a ≡ Is n → (record { n = n; at = at; good = p .good } ≡ withField p s at greatest) × (n ≤ greatest)
@@ -60,8 +62,8 @@ module _ (p : Number) (s : List ℕ) (stop greatest : ℕ) {rest : List ℕ} {k 
       (sym (other _ (le-ltb _ _ none)) ∙ ap (λ (l : List ℕ). nextIn p l stop greatest) r, (omega arith, w))
 
 pub line-is :
-    (s : List ℕ) (at : ℕ) {a b c d e f g : Number} → a ≡ numberAt 1 s at → b ≡ nextNumber a s 9 2097152 → c ≡ nextNumber b s 9 2097152 →
-    d ≡ nextNumber c s 9 2097152 → e ≡ nextNumber d s 9 2097152 → f ≡ nextNumber e s 9 2097152 → g ≡ nextNumber f s 10 18446744073709551615 →
+    (s : List ℕ) (at : ℕ) {o a b c d e f g : Number} → o ≡ startAt at → a ≡ nextNumber o s 9 2097152 → b ≡ nextNumber a s 9 2097152 →
+    c ≡ nextNumber b s 9 2097152 → d ≡ nextNumber c s 9 2097152 → e ≡ nextNumber d s 9 2097152 → f ≡ nextNumber e s 9 2097152 → g ≡ nextNumber f s 10 18446744073709551615 →
     record {
       head = a .n;
       times = b .n;
@@ -76,7 +78,7 @@ pub line-is :
     }
     ≡ lineAt s at
 unfolding lineAt
-line-is s at ea eb ec ed ee ef eg = rw (eg, ef, ee, ed, ec, eb, ea) refl
+line-is s at eo ea eb ec ed ee ef eg = rw (eg, ef, ee, ed, ec, eb, ea, eo) refl
 
 -- a whole day
 pub whole :
@@ -106,3 +108,18 @@ module _ (l : Line) {n : ℕ} (h : (l .at + l .head + l .body + l .tail + l .sho
 
   pub tail-fits : Fits w64 (l .at + l .head + l .body + l .tail)
   tail-fits = record { fits = omega arith }
+
+-- the same of a pair
+pub pair-is :
+    (s : List ℕ) (at : ℕ) {o a b c : Number} → o ≡ startAt at → a ≡ nextNumber o s 9 2097152 → b ≡ nextNumber a s 9 2097152 →
+    c ≡ nextNumber b s 10 2097152 →
+    record { day = a .n; sheet = b .n; answer = c .n; at = c .at; end = c .at + a .n + b .n; good = c .good } ≡ pairAt s at
+unfolding pairAt
+pair-is s at eo ea eb ec = rw (ec, eb, ea, eo) refl
+
+pub whole-pair :
+    (s : List ℕ) (at : ℕ) {p : Pair} (n : ℕ) → p ≡ pairAt s at → (p .good && leb (p .end) n) ≡ true → p .at + p .day + p .sheet ≤ n
+unfolding pairAt
+whole-pair s at {p} n e h =
+    let ends : p .end ≡ p .at + p .day + p .sheet = rw e refl in
+    omega (arith, ends, leb-true (p .end) n (snd-true (p .good) (leb (p .end) n) h))

@@ -16,6 +16,10 @@ use Rattle.vectors.specs.declared.Line.{Line}
 use Rattle.vectors.specs.declared.Found.{Found}
 use Rattle.vectors.specs.declared.Found.the-variants.{Agrees, Length, Bytes, Check, TooLong}
 
+-- before the first number
+abbrev pub startAt : ℕ → Number
+startAt at = record { n = 0; at = at; good = true }
+
 -- what was read of a field, 0 where it was refused
 abbrev pub ofField : Number → ℕ → Answer → Number
 ofField p at a = record { n = getD (a .values) 0 0; at = at; good = eqb (a .number) 0 && p .good }
@@ -36,7 +40,7 @@ nextNumber p s stop greatest = nextIn p (drop (p .at) s) stop greatest
 
 -- the k-th of the numbers that end in tabs, from the place `at` on
 abbrev pub numberAt : ℕ → List ℕ → ℕ → Number
-numberAt zero s at = record { n = 0; at = at; good = true }
+numberAt zero s at = startAt at
 numberAt (suc k) s at = nextNumber (numberAt k s at) s 9 2097152
 
 -- the one after six of them, which ends in a line feed
@@ -94,11 +98,3 @@ shownAt s l = part s (l .at + l .head + l .body + l .tail) (l .shown)
 -- where the day fits the slice d, and its sheet the slice o
 unfoldable pub foundAt : List ℕ → Line → List ℕ → List ℕ → Found
 foundAt s l d o = choose (fits d 0 (dayAt s l)) (sheetCompared o (dayAt s l) (l .sheet) (shownAt s l) (l .check)) TooLong
-
--- 1 for a day that agrees
-abbrev pub agreeing : Found → ℕ
-agreeing Agrees = 1
-agreeing Length = 0
-agreeing Bytes = 0
-agreeing Check = 0
-agreeing TooLong = 0

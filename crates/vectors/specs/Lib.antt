@@ -1,2 +1,4 @@
 pub mod Check
 pub mod Days
+pub mod Tally
+pub mod Pairs

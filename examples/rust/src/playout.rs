@@ -1,12 +1,12 @@
 //! The library `playout` in Rust: the structs and functions of crates/playout/playout.h, which says
-//! what each of them does. Those that work on one server and on lines; a table and a channel are
-//! taken over in the same way.
+//! what each of them does. Those that work on one server, on lines and on a sheet; a table and a
+//! channel are taken over in the same way.
 
 use std::mem::size_of;
 
 /// What this file is written for; `rules` and `version` say what is linked.
 pub const RULES: u32 = 1;
-pub const VERSION: u32 = 1000;
+pub const VERSION: u32 = 1001;
 /// A version is this many times the major, and the minor.
 pub const MAJOR: u32 = 1000;
 
@@ -166,6 +166,12 @@ mod c {
         ) -> Written;
         pub fn playout_timecode_read(label: *const u8, label_len: usize) -> TimecodeAnswer;
         pub fn playout_timecode_write(frame: u32, out: *mut u8, out_len: usize) -> Written;
+        pub fn playout_departure(
+            day: *const u8,
+            day_len: usize,
+            sheet: *const u8,
+            sheet_len: usize,
+        ) -> u64;
     }
 }
 
@@ -243,4 +249,9 @@ pub fn timecode_read(label: &[u8]) -> TimecodeAnswer {
 
 pub fn timecode_write(frame: u32, out: &mut [u8]) -> Written {
     unsafe { c::playout_timecode_write(frame, out.as_mut_ptr(), out.len()) }
+}
+
+/// The number of the first line of a sheet that is not as the day has it; 0 if it is the day's sheet.
+pub fn departure(day: &[u8], sheet: &[u8]) -> u64 {
+    unsafe { c::playout_departure(day.as_ptr(), day.len(), sheet.as_ptr(), sheet.len()) }
 }

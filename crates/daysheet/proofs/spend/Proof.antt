@@ -1,6 +1,6 @@
 use mathlib.Core.Path.{refl, sym, _∙_}
 use native.Mathlib.Omega.{arith}
-use Rattle.daysheet.proofs.Answers.{same-to, not-to}
+use Rattle.printer.proofs.Told.{same-to, not-to}
 use borrow.Author.Needs.{needs}
 use Rattle.daysheet.proofs.spend.Statement.{statement}
 use Rattle.daysheet.proofs.spend.Tie as tie

@@ -1,0 +1,5 @@
+pub mod Departure
+pub mod Compare
+pub mod Laws
+pub mod Answers
+pub mod Steps

@@ -1,0 +1,4 @@
+pub mod Shortness
+pub mod Standing
+pub mod Asking
+pub mod Laws
