@@ -44,9 +44,9 @@ extern "C" {
    with. */
 enum {
     /* the number of the rules: servers of a group must have the same */
-    PLAYOUT_RULES = 1,
+    PLAYOUT_RULES = 2,
     /* of the code: 1000 times the major, and the minor */
-    PLAYOUT_VERSION = 1001
+    PLAYOUT_VERSION = 2000
 };
 
 /* Why a call was refused. There is no 10. */
@@ -105,14 +105,16 @@ enum {
     PLAYOUT_EVENT_TO_PROSPECT_REVEAL = 3,
     /* a primary that heard a lower server: look for a cut link */
     PLAYOUT_EVENT_LOWER = 4,
-    /* sends a plain beat */
+    /* sends a plain beat: its timer's, or a prospect's reply to the reveal of a lower server */
     PLAYOUT_EVENT_BEAT = 5,
     PLAYOUT_EVENT_TO_PRIMARY = 6,
     PLAYOUT_EVENT_TO_SYNC = 7,
     PLAYOUT_EVENT_TO_IDLE = 8,
     PLAYOUT_EVENT_TO_DOWN = 9,
     /* sends a heartbeat that names the next primary; now backup */
-    PLAYOUT_EVENT_PASSED = 10
+    PLAYOUT_EVENT_PASSED = 10,
+    /* a primary that heard the reveal of a lower server: as 4, and sends a plain beat, its reply */
+    PLAYOUT_EVENT_LOWER_BEAT = 11
 };
 
 /* What may be entered of a server; of two servers, where it is pass, cut or mend. */
@@ -211,8 +213,8 @@ typedef struct playout_front_made {
 /*
  * What a heartbeat did. `number` is 0 where it is accepted, else the refusal's, and the rest is 0.
  * `event` is 0 nothing, 1 to backup, 2 to prospect with a beat, 3 to prospect with a reveal, 4
- * lower, 5 beat, 6 to primary, 7 to sync, 8 to idle, 9 to down, 10 passed. `role` is the role
- * afterwards.
+ * lower, 5 beat, 6 to primary, 7 to sync, 8 to idle, 9 to down, 10 passed, 11 lower with a beat.
+ * `role` is the role afterwards.
  */
 typedef struct playout_heard {
     uint32_t number;
@@ -335,11 +337,11 @@ PLAYOUT_SIZE(playout_channel_answered, 600);
 #endif
 
 /*
- * The number of the rules that this library plays by: 1 for document 01, one more with every change
- * of the rules that a sheet can show. All servers of a group compare theirs before they play; those
- * whose numbers differ do not play together: half a group on each side of a change of rules gives
- * two sheets, and nobody notices. A program compares `PLAYOUT_RULES`, what it was compiled against,
- * with this, what it is linked with, at its start.
+ * The number of the rules that this library plays by: 1 for document 01, 2 since a reveal gets a
+ * reply, one more with every change of the rules that a sheet can show. All servers of a group
+ * compare theirs before they play; those whose numbers differ do not play together: half a group on
+ * each side of a change of rules gives two sheets, and nobody notices. A program compares
+ * `PLAYOUT_RULES`, what it was compiled against, with this, what it is linked with, at its start.
  */
 uint32_t playout_rules(void);
 

@@ -138,6 +138,19 @@ impl Server {
         doing.words.push("backup");
     }
 
+    /// "sends a plain beat in that frame, once only, and not if it has already sent in that frame":
+    /// what it does in a frame begins with nothing sent.
+    fn reply(&mut self, doing: &mut Doing) {
+        if !doing.sent.is_empty() {
+            return;
+        }
+        if let Role::Prospect { beat, .. } | Role::Primary { beat } = &mut self.role {
+            // "its beat age becomes 0"
+            *beat = 0;
+            self.beat(doing);
+        }
+    }
+
     /// "A timer set in frame s has age t − s in frame t."
     fn grow_older(&mut self) {
         match &mut self.role {
@@ -172,22 +185,32 @@ impl Server {
                     self.reveal(doing);
                 }
             }
-            Role::Prospect { .. } => {
-                // "higher sender: to backup"; "Prospect, lower sender: nothing"
+            Role::Prospect { .. } | Role::Primary { .. } => {
                 if sender_is_higher {
-                    self.enter_backup(doing);
-                }
-            }
-            Role::Primary { .. } => {
-                if sender_is_higher {
-                    // "BS is not looked at"
+                    // "higher sender: to backup"; "BS is not looked at"
                     self.enter_backup(doing);
                 } else if sender_is_lower {
-                    // "a note `lower` with the hearer's identity"
-                    doing.words.push("lower");
+                    // "a note `lower` with the hearer's identity"; of a prospect nothing
+                    if matches!(self.role, Role::Primary { .. }) {
+                        doing.words.push("lower");
+                    }
+                    // "the reply follows any `lower` note of the same heartbeat"
+                    if heard.reveal {
+                        self.reply(doing);
+                    }
                 }
             }
         }
+    }
+
+    /// What it says and sends when it hears these in one frame, whatever they are.
+    #[cfg(test)]
+    pub fn hears(&mut self, heard: &[Heartbeat]) -> (Vec<&'static str>, Vec<Heartbeat>) {
+        let mut doing = Doing::default();
+        for heartbeat in heard {
+            self.hear(heartbeat, &mut doing);
+        }
+        (doing.words, doing.sent)
     }
 
     /// "Timers, after all hearing in the frame"
@@ -253,6 +276,12 @@ impl Channel {
         self.servers.iter().position(|server| server.identity == identity)
     }
 
+    /// What was sent in this frame so far, by the place of the sender.
+    #[cfg(test)]
+    pub fn sent(&self) -> &[(usize, Heartbeat)] {
+        &self.sent
+    }
+
     pub fn is_cut(&self, from: usize, to: usize) -> bool {
         self.cut[from][to]
     }
@@ -269,6 +298,13 @@ impl Channel {
     pub fn primaries(&self) -> Vec<usize> {
         let is_primary = |&place: &usize| matches!(self.servers[place].role, Role::Primary { .. });
         (0..self.servers.len()).filter(is_primary).collect()
+    }
+
+    /// All places, the highest server first.
+    pub fn from_highest(&self) -> Vec<usize> {
+        let mut places: Vec<usize> = (0..self.servers.len()).collect();
+        places.sort_by_key(|&place| Reverse(self.servers[place].rank()));
+        places
     }
 
     /// "To advance: the frame number rises by 1; then, server by server in rising identity,

@@ -31,7 +31,8 @@ const PLAIN: u8 = 16;
 const REVEALING: u8 = 17;
 
 /// One server sends at most this many in a frame: one for each pass to it that it hears, one
-/// reveal for a lower sender, one by a timer, and its own pass.
+/// reveal for a lower sender, one by a timer, and its own pass. With a reply they are two: nothing
+/// is sent before it, and nothing but the pass after it.
 const MOST_SENT: usize = MOST + 3;
 
 /// What was sent in one frame, by rank.
@@ -727,11 +728,30 @@ impl Group {
                         }
                     }
                     _ if higher => self.enter(place, BACKUP, out),
-                    PRIMARY => out.line(self.frame, place, LOWER),
-                    _ => {}
+                    role => {
+                        if role == PRIMARY {
+                            out.line(self.frame, place, LOWER);
+                        }
+                        if what == REVEALING {
+                            self.reply(place, out);
+                        }
+                    }
                 }
             }
         }
+    }
+
+    /// A prospect or primary answers a reveal with a beat, if it has not sent in this frame.
+    fn reply<S: Sink>(&mut self, place: usize, out: &mut S) {
+        if self.posts[self.now].senders >> self.rank[place] & 1 == 1 {
+            return;
+        }
+        let due = self.frame + self.period;
+        self.beat_due[place] = due;
+        // a prospect may still become primary in this frame
+        let limit = if self.role[place] == PROSPECT { self.prospect_due[place] } else { NEVER };
+        self.due[place] = due.min(limit);
+        self.send(place, BEAT, PLAIN, out);
     }
 
     /// Called only in a frame in which some timer of this server is due.
@@ -760,7 +780,7 @@ impl Group {
     /// Passes are heard in the first frame alone, each heartbeat with two lines at the most. What
     /// was sent in that frame is heard in the second. From then on a server sends at most once in
     /// a frame, so it prints at most `backup`, `prospect` and `reveal`, or one `lower` for each
-    /// other server and `beat`, or `beat` and `primary`.
+    /// other server and one `beat`, a reply or due, or `beat` and `primary`.
     fn most_bytes(&self, frames: u32) -> u64 {
         let count = self.count as u64;
         let first = 2 * count * (2 * count * MOST_SENT as u64 + 2);

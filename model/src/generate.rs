@@ -5,7 +5,8 @@ use crate::day::MOST_LINES;
 use crate::script::{join, Rng, Script};
 use crate::text::{read_timecode, write_timecode, LAST_FRAME};
 
-/// The day of a seed. Seeds that are 0 modulo 997 give days at the limit of lines.
+/// The day of a seed. Seeds that are 0 modulo 997 give days at the limit of lines, and every third
+/// of the others a day in which reveals reach prospects and primaries.
 pub fn day(seed: u64) -> Vec<u8> {
     let mut rng = Rng::new(seed);
     let remainder = seed % 997;
@@ -13,6 +14,13 @@ pub fn day(seed: u64) -> Vec<u8> {
         return full_day(&mut rng, seed / 997);
     }
     let rng = &mut rng;
+    if seed.is_multiple_of(3) {
+        let script = match rng.below(3) {
+            0 => played(rng, 3, 6, elections),
+            _ => played(rng, 2, 5, unheard),
+        };
+        return if rng.chance(1, 6) { spoil(rng, script) } else { script.text() };
+    }
     let script = match rng.below(18) {
         0 | 1 => played(rng, 1, 8, churn),
         2 | 3 => played(rng, 1, 7, soup),
@@ -321,12 +329,7 @@ fn many_passes(rng: &mut Rng, script: &mut Script) {
     let frames = rng.below(2 * period);
     script.wait(frames);
     // often the lowest, who hears passes from higher servers alone
-    let lowest = (0..script.count())
-        .min_by_key(|&place| {
-            let server = &script.channel.servers[place];
-            (server.priority, server.identity)
-        })
-        .unwrap_or(0);
+    let lowest = script.channel.from_highest().pop().unwrap_or(0);
     let target = if rng.chance(1, 2) { lowest } else { script.some_server(rng) };
     let away = script.some_other(rng, target);
     match rng.below(4) {
@@ -530,6 +533,94 @@ fn staggered(rng: &mut Rng, script: &mut Script) {
         for place in script.channel.primaries() {
             script.entry(Verb::Crash, place, place);
         }
+    }
+    settle(rng, script);
+}
+
+/// Several reveal in one frame, again and again: all that hear the primary do so when it falls.
+fn elections(rng: &mut Rng, script: &mut Script) {
+    let count = script.count();
+    for place in 0..count {
+        script.revive(place);
+    }
+    for _ in 0..rng.between(1, 3) {
+        let period = script.period();
+        let frames = if rng.chance(1, 3) { 2 * period + rng.below(4) } else { 4 * period + 2 };
+        script.wait(frames);
+        // sometimes in the frame of a beat or of a reply
+        if rng.chance(1, 2) {
+            script.wait_for_sending(2 * period);
+        }
+        let place = some_primary(rng, script, 8);
+        match rng.below(6) {
+            0 => {
+                let other = script.some_other(rng, place);
+                script.entry(Verb::Cut, place, other);
+            }
+            1 => script.entry(Verb::Pass, place, script.some_other(rng, place)),
+            _ => script.entry(Verb::Crash, place, place),
+        }
+        if rng.chance(1, 2) {
+            wait_a_while(rng, script);
+            script.revive(place);
+        }
+    }
+    settle(rng, script);
+}
+
+/// Somebody is not heard by some of the lower servers, whose reveals come to it as a prospect and
+/// as a primary.
+fn unheard(rng: &mut Rng, script: &mut Script) {
+    let period = script.period();
+    let ranks = script.channel.from_highest();
+    // the highest, or somebody above one other at least
+    let at = rng.below(ranks.len() as u32 - 1) as usize;
+    let at = if rng.chance(3, 4) { 0 } else { at };
+    let (top, lower) = (ranks[at], &ranks[at + 1..]);
+    let mut deaf = lower.to_vec();
+    rng.shuffle(&mut deaf);
+    deaf.truncate(rng.between(1, lower.len() as u32) as usize);
+    for &place in &deaf {
+        script.entry(Verb::Cut, top, place);
+    }
+    let mut places: Vec<usize> = ranks.iter().copied().filter(|&place| place != top).collect();
+    rng.shuffle(&mut places);
+    script.revive(top);
+    // often so that a timer is due in the frame of a reply, or that everybody reveals at once
+    let frames = match rng.below(3) {
+        0 => *rng.pick(&[0, 0, period - 1, 2 * period - 1, 5 * period - 1]),
+        _ => rng.below(4 * period + 1),
+    };
+    script.wait(frames);
+    for place in places {
+        script.revive(place);
+        if rng.chance(1, 4) {
+            script.wait(1);
+        }
+    }
+    for _ in 0..rng.between(1, 3) {
+        let frames = 2 * period + rng.below(period + 2);
+        script.wait(frames);
+        let &place = rng.pick(&deaf);
+        match rng.below(6) {
+            // silent again from here on
+            0 => {
+                script.entry(Verb::Unready, place, place);
+                script.entry(Verb::Ready, place, place);
+            }
+            1 | 2 => {
+                for &place in &deaf {
+                    script.entry(Verb::Crash, place, place);
+                    script.revive(place);
+                }
+            }
+            3 => script.entry(Verb::Mend, top, place),
+            4 => script.entry(Verb::Pass, top, place),
+            _ => allowed_entry(rng, script),
+        }
+    }
+    if rng.chance(1, 2) {
+        heal(rng, script);
     }
     settle(rng, script);
 }

@@ -9,7 +9,7 @@ use std::fs;
 const D1: &str = "period 2\nserver 1 10\nserver 2 20\n@0 start 1\n@0 ready 1\n@0 start 2\n\
     @0 ready 2\nend @8";
 const D1_SHEET: &str = "time server what\n@0 1 sync\n@0 1 backup\n@0 2 sync\n@0 2 backup\n\
-    @4 1 prospect\n@4 1 reveal\n@4 2 prospect\n@4 2 reveal\n@5 1 backup\n@6 2 beat\n@8 2 beat\n\
+    @4 1 prospect\n@4 1 reveal\n@4 2 prospect\n@4 2 reveal\n@5 1 backup\n@5 2 beat\n@7 2 beat\n\
     @8 2 primary";
 const D1_LINES: usize = 13;
 

@@ -5,6 +5,7 @@ use crate::calls::{self, outcome, role_digit, Answer, Call, Plain, What};
 use crate::channel::Verb;
 use crate::compare::compare;
 use crate::lists::{lists, LEAST_CALLS, MOST_CALLS, MOST_LENT, REFUSALS};
+use crate::reply_tests::{self, kinds, KINDS};
 use crate::text::{read_timecode, LAST_FRAME};
 use crate::{day, fast, generate, long};
 use std::collections::BTreeMap;
@@ -63,21 +64,21 @@ fn d1_as_a_list() {
     expect(
         &format!(
             "{READY}5 4 0 0 1000
-            4 0 0 0 20
-            4 0 0 0 21
-            5 8 0 0 61
+            4 0 0 0 39
+            4 0 0 0 40
+            5 8 0 0 42
             5 8 0 0 60
             5 8 0 0 0
             6 2 14 0 50"
         ),
         &format!(
             "{READY_ANSWERS}0 88 912 4 44
-            {REVEALS}9 0 20 4 44
-            0 21 0 5 34
+            {REVEALS}9 0 39 4 44
+            0 40 0 5 34
             00:00:00:05 1 backup
-            0 60 1 8 35
-            00:00:00:06 2 beat
-            00:00:00:08 2 beat
+            00:00:00:05 2 beat
+            0 41 1 8 35
+            00:00:00:07 2 beat
             00:00:00:08 2 primary
             0 0 60 8 35
             0 0 0 8 35
@@ -103,8 +104,8 @@ fn d4_as_a_list() {
             "{READY_ANSWERS}9 0 148 0 33
             0 169 0 8 35
             {REVEALS}00:00:00:05 1 backup
-            00:00:00:06 2 beat
-            00:00:00:08 2 beat
+            00:00:00:05 2 beat
+            00:00:00:07 2 beat
             00:00:00:08 2 primary
             9 0 39 8 35
             0 40 0 8 33
@@ -700,6 +701,43 @@ fn links_passes_and_elections() {
             && table.iter().all(|server| server.1 == table[0].1)
             && has(list, "\tprimary")
     });
+}
+
+/// The kinds of replies in the frames that a list plays.
+fn replies(list: &[Seen]) -> Vec<&'static str> {
+    let mut plain = Plain::default();
+    let mut found = Vec::new();
+    for seen in list {
+        let goal = match seen.call.what {
+            What::Frame => seen.frame + 1,
+            What::Time { time } => time,
+            _ => 0,
+        };
+        let mut channel = plain.channel.clone();
+        plain.answer(&seen.call);
+        if let (Some(channel), 0) = (&mut channel, seen.number()) {
+            let mut again: Vec<usize> = Vec::new();
+            while channel.frame < goal {
+                let replied = reply_tests::advance(channel, &mut Vec::new());
+                found.extend(replied.iter().flat_map(|reply| kinds(reply, &again)));
+                again = replied.iter().map(|reply| reply.place).collect();
+            }
+        }
+    }
+    found
+}
+
+#[test]
+fn reveals_get_replies() {
+    let found: Vec<Vec<&str>> = all().iter().map(|list| replies(list)).collect();
+    let lists = found.iter().filter(|kinds| !kinds.is_empty()).count();
+    println!("{lists:6} lists with a reply");
+    assert!(lists as u64 >= COUNT / 2, "{lists}");
+    for kind in KINDS {
+        let lists = found.iter().filter(|kinds| kinds.contains(&kind)).count();
+        println!("{lists:6} lists: reply {kind}");
+        assert!(lists >= 3, "{kind}: {lists}");
+    }
 }
 
 #[test]

@@ -18,9 +18,9 @@ pub const MOST_LENT: usize = 60_000;
 pub const REFUSALS: [u8; 15] = [1, 2, 3, 4, 5, 6, 7, 8, 9, 11, 12, 13, 14, 15, 16];
 
 #[rustfmt::skip]
-const KINDS: [fn(&mut Maker); 20] = [
+const KINDS: [fn(&mut Maker); 21] = [
     tables, churn, soup, roles, parted, passes, falls, last_frame, late, slices, times, identities,
-    ties, crowd, alone, slow, again, by_frames, many_passes, one_way_cuts,
+    ties, crowd, alone, slow, again, by_frames, many_passes, one_way_cuts, unheard,
 ];
 
 /// The kinds take turns, so that a few dozen lists have them all.
@@ -989,12 +989,8 @@ fn many_passes(maker: &mut Maker) {
     maker.wait(4 * period);
     let frames = *maker.rng.pick(&[0, 0, 1, period - 1, period]);
     maker.wait(frames);
-    let servers = &maker.channel().servers;
-    let lowest = (0..count).min_by_key(|&at| (servers[at].priority, servers[at].identity));
-    let target = match lowest {
-        Some(lowest) if maker.rng.chance(1, 2) => lowest,
-        _ => maker.some_server(),
-    };
+    let lowest = maker.channel().from_highest()[count - 1];
+    let target = if maker.rng.chance(1, 2) { lowest } else { maker.some_server() };
     let away = maker.some_other(target);
     match maker.rng.below(8) {
         0 => maker.act(Verb::Crash, target, away),
@@ -1047,5 +1043,42 @@ fn one_way_cuts(maker: &mut Maker) {
             }
         }
     }
+    maker.settle();
+}
+
+/// Nobody hears the highest. The others reveal while it is prospect, or in one frame while it is
+/// primary, and then it is heard.
+fn unheard(maker: &mut Maker) {
+    let count = *maker.rng.pick(&[3, 3, 4]);
+    let period = count as u32 + maker.rng.below(3);
+    maker.group_with(count, period, false);
+    let mut places = maker.channel().from_highest();
+    let highest = places.remove(0);
+    for &place in &places {
+        maker.act(Verb::Cut, highest, place);
+    }
+    maker.revive(highest);
+    let frames = match maker.turn % 4 {
+        // the reply is in the frame of a beat
+        0 => 5 * period - 1,
+        // and this one in the frame in which the prospect limit falls
+        1 => 2 * period - 1,
+        2 => maker.rng.below(2 * period),
+        _ => 4 * period + maker.rng.below(period),
+    };
+    maker.wait(frames);
+    maker.rng.shuffle(&mut places);
+    for &place in &places {
+        maker.revive(place);
+    }
+    maker.wait(2 * period);
+    maker.wait(1);
+    maker.allowed();
+    maker.settle();
+    for (from, to) in maker.links(true) {
+        maker.act(Verb::Mend, from, to);
+    }
+    let primary = maker.some_primary();
+    maker.act(Verb::Crash, primary, primary);
     maker.settle();
 }

@@ -26,6 +26,8 @@ mod list_tests;
 #[cfg(test)]
 mod pair_tests;
 #[cfg(test)]
+mod reply_tests;
+#[cfg(test)]
 mod tests;
 #[cfg(test)]
 mod vector_tests;

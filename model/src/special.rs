@@ -25,6 +25,13 @@ pub fn days() -> Vec<Vec<u8>> {
     days.extend(crashes());
     days.extend(tables());
     days.extend(LATE.iter().map(|text| day(text)));
+    days.extend(REPLIES.iter().map(|text| day(text)));
+    days.extend(ready_side_by_side());
+    days.extend(elections_with_cuts());
+    days.extend(replies_at_each_age());
+    days.extend(two_revealers());
+    days.extend(passes_beside_reveals());
+    days.extend(entries_after_replies());
     days
 }
 
@@ -38,14 +45,14 @@ pub const RIGHT: &[&str] = &[
     // D1 to D6
     "period 2\nserver 1 10\nserver 2 20\n@0 start 1\n@0 ready 1\n@0 start 2\n@0 ready 2\nend @8",
     "period 2\nserver 1 10\nserver 2 20\n@0 start 1\n@0 ready 1\n@0 start 2\n@0 ready 2\n\
-     @8 crash 2\nend @18",
+     @8 crash 2\nend @20",
     "period 2\nserver 1 10\nserver 2 20\n@0 start 1\n@0 ready 1\n@0 start 2\n@0 ready 2\n\
-     @9 crash 2\nend @18",
+     @9 crash 2\nend @20",
     "period 2\nserver 1 10\nserver 2 20\n@0 start 1\n@0 ready 1\n@0 start 2\n@0 ready 2\n\
-     @8 pass 2 1\nend @16",
-    "period 2\nserver 1 20\nserver 2 20\n@0 start 1\n@0 ready 1\n@0 start 2\n@0 ready 2\nend @9",
+     @8 pass 2 1\nend @20",
+    "period 2\nserver 1 20\nserver 2 20\n@0 start 1\n@0 ready 1\n@0 start 2\n@0 ready 2\nend @12",
     "period 3\nserver 1 10\nserver 2 20\nserver 3 30\n@0 start 1\n@0 ready 1\n@0 start 2\n\
-     @0 ready 2\n@0 start 3\n@0 ready 3\nend @14",
+     @0 ready 2\n@0 start 3\n@0 ready 3\nend @16",
     // D7, D8 and D9
     "period 2\nserver 1 1\nserver 2 2\nend @0",
     "period 2\nserver 1 255\nend @0",
@@ -216,6 +223,9 @@ const WAYS: &[(Refusal, &str)] = &[
     (5, "period 2\nserver 1 1\nserver 2 1\nserver 1 255"),
     (5, "period 2\nserver 65535 0\nserver 65535 0"),
     (5, "period 9\nserver 3 1\nserver 2 1\nserver 1 1\nserver 2 1\nserver 4 4\nend @0"),
+    (5, "period 2\nserver 10 0\nserver 1 0\nserver 10 0\n@0 start 10\nend @0"),
+    // 5 before 7
+    (5, "period 2\nserver 1 1\nserver 2 2\nserver 3 3\nserver 2 2\nend @0"),
     // 6: no server; before 7 and 8
     (6, "period 2\n@0 start 1"), (6, "period 2\nend @0"), (6, "period 250\n23:59:59:24 cut 1 1"),
     (6, "period 2\nend 23:59:59:24"), (6, "period 2\n@0 mend 7 8\nserver 7 1"),
@@ -369,6 +379,13 @@ fn crowds() -> Vec<(Refusal, Vec<u8>)> {
     days.push((2, day(&format!("{}server 0 0\nend @0", many(16, full)))));
     days.push((1, day(&format!("{}server 17\nend @0", many(16, full)))));
     days.push((4, day(&format!("{}period 16\nend @0", many(16, full)))));
+    // an identity twice, in each two places of four
+    for (one, other) in [(0, 1), (0, 2), (0, 3), (1, 2), (1, 3), (2, 3)] {
+        let mut identities = [4, 3, 2, 1];
+        identities[other] = identities[one];
+        let servers = identities.map(|identity| format!("server {identity} {identity}\n"));
+        days.push((5, day(&format!("period 4\n{}end @0", servers.concat()))));
+    }
     // a period one too small
     for count in 3..=full {
         days.push((7, day(&format!("{}end @0", many(count - 1, count)))));
@@ -442,7 +459,7 @@ fn finished(mut script: Script, periods: u32) -> Vec<u8> {
     script.text()
 }
 
-/// Each verb but `cut` and `mend` in each role; then the other server becomes ready.
+/// Each verb but `cut` and `mend` in each role; then both servers become ready, if they can.
 fn verbs_in_roles() -> Vec<Vec<u8>> {
     let mut days = Vec::new();
     for (period, table, place) in
@@ -455,6 +472,7 @@ fn verbs_in_roles() -> Vec<Vec<u8>> {
                 script.entry(*verb, place, 1 - place);
                 script.wait(1);
                 script.revive(1 - place);
+                script.revive(place);
                 days.push(finished(script, 4));
             }
         }
@@ -476,6 +494,7 @@ fn links_in_roles() -> Vec<Vec<u8>> {
             script.entry(Verb::Mend, to, from);
             script.wait(2);
             script.revive(to);
+            script.revive(from);
             script.wait(9);
             script.entry(Verb::Mend, from, to);
             script.entry(Verb::Mend, from, to);
@@ -488,12 +507,13 @@ fn links_in_roles() -> Vec<Vec<u8>> {
 const PAIRS: [[(u16, u8); 2]; 3] = [[(1, 10), (2, 20)], [(1, 20), (2, 10)], [(1, 7), (2, 7)]];
 
 /// A pass to a server in each role, heard or not, by a higher server and by a lower one, in the
-/// frame of a beat and in the one after it.
+/// frame of a beat and in the one after it; to a prospect or primary also later.
 fn passes() -> Vec<Vec<u8>> {
     let mut days = Vec::new();
     for table in PAIRS {
         for role in ROLES {
-            for (heard, frames) in [(true, 0), (true, 1), (false, 0)] {
+            let later = (role >= PROSPECT).then_some((true, 3));
+            for (heard, frames) in [(true, 0), (true, 1), (false, 0)].into_iter().chain(later) {
                 let mut script = Script::new(2, &table);
                 script.entry(Verb::Cut, 0, 1);
                 script.entry(Verb::Cut, 1, 0);
@@ -657,6 +677,184 @@ fn tables() -> Vec<Vec<u8>> {
             script.entry(Verb::Pass, primary, 5);
             script.wait(period);
             script.entry(Verb::Crash, 5, 5);
+            days.push(finished(script, 5));
+        }
+    }
+    days
+}
+
+// Replies to reveals
+
+/// One for each thing that is easily misread.
+#[rustfmt::skip]
+pub const REPLIES: &[&str] = &[
+    // a further reveal in the next frame gets a further reply, of a prospect and of a primary
+    "period 4\nserver 1 10\nserver 2 20\nserver 3 30\nserver 4 40\n@0 start 1\n@0 ready 1\n\
+     @0 start 2\n@0 ready 2\n@0 start 3\n@0 ready 3\n@0 start 4\n@0 ready 4\nend @19",
+    "period 3\nserver 1 10\nserver 2 20\nserver 3 30\n@0 start 1\n@0 ready 1\n@0 start 2\n\
+     @0 ready 2\n@0 start 3\n@0 ready 3\n@14 cut 3 1\nend @23",
+    // two reveals in one frame get one reply, between two `lower`
+    "period 3\nserver 1 10\nserver 2 20\nserver 3 30\n@0 start 1\n@0 ready 1\n@0 start 2\n\
+     @0 ready 2\n@0 start 3\n@0 ready 3\n@14 cut 3 1\n@14 cut 3 2\nend @23",
+    // the same in the frame in which the beat is due
+    "period 3\nserver 1 10\nserver 2 20\nserver 3 30\n@0 start 1\n@0 ready 1\n@0 start 2\n\
+     @0 ready 2\n@0 start 3\n@0 ready 3\n@13 unready 1\n@13 ready 1\n@13 unready 2\n\
+     @13 ready 2\n@14 cut 3 1\n@14 cut 3 2\nend @23",
+    // a beat and a reveal of one sender
+    "period 4\nserver 1 10\nserver 2 20\nserver 3 30\nserver 4 40\n@0 cut 3 4\n@0 cut 4 3\n\
+     @0 start 3\n@0 ready 3\n@0 start 4\n@0 ready 4\n@16 cut 2 1\n@16 cut 3 1\n@16 cut 4 1\n\
+     @16 cut 1 3\n@16 cut 1 4\n@16 start 1\n@16 ready 1\n@16 start 2\n@16 ready 2\n\
+     @24 pass 4 2\nend @40",
+    // the beat by which it enters has been sent already
+    "period 3\nserver 1 10\nserver 2 20\nserver 3 30\n@0 start 1\n@0 ready 1\n@0 start 2\n\
+     @0 ready 2\n@0 start 3\n@0 ready 3\n@14 cut 3 1\n@18 pass 3 2\nend @25",
+    // the reply, and then `primary`
+    "period 3\nserver 1 10\nserver 2 20\nserver 3 30\n@0 cut 2 1\n@0 cut 3 1\n@0 cut 1 2\n\
+     @0 start 2\n@0 ready 2\n@0 start 3\n@0 ready 3\n@5 start 1\n@5 ready 1\nend @20",
+    // a reveal that raises a backup gets the backup's own and no beat
+    "period 2\nserver 1 10\nserver 2 20\n@0 start 1\n@0 ready 1\n@1 start 2\n@1 ready 2\nend @9",
+    // the reveal of a higher server gets none, of a backup and of a primary
+    "period 2\nserver 1 10\nserver 2 20\n@0 start 2\n@0 ready 2\n@1 start 1\n@1 ready 1\nend @9",
+    "period 2\nserver 1 10\nserver 2 20\n@0 cut 1 2\n@0 start 1\n@0 ready 1\n@5 start 2\n\
+     @5 ready 2\nend @13",
+    // a reply over a cut link, and one that a higher backup hears
+    "period 2\nserver 1 10\nserver 2 20\n@0 cut 2 1\n@0 start 1\n@0 ready 1\n@0 start 2\n\
+     @0 ready 2\nend @13",
+    "period 3\nserver 1 10\nserver 2 20\nserver 3 30\n@0 cut 1 3\n@0 cut 2 3\n@0 start 1\n\
+     @0 ready 1\n@0 start 2\n@0 ready 2\n@5 start 3\n@5 ready 3\n@7 mend 2 3\nend @20",
+];
+
+const THREE: [[(u16, u8); 3]; 3] =
+    [[(1, 10), (2, 20), (3, 30)], [(1, 30), (2, 20), (3, 10)], [(7, 5), (8, 5), (9, 5)]];
+
+/// Three servers become ready in the same frame, or up to two frames apart.
+fn ready_side_by_side() -> Vec<Vec<u8>> {
+    let mut days = Vec::new();
+    for turn in 0..27 {
+        let at = [turn % 3, turn / 3 % 3, turn / 9];
+        let mut script = Script::new(3, &THREE[turn as usize % THREE.len()]);
+        for frame in 0..3 {
+            for place in (0..3).filter(|&place| at[place] == frame) {
+                script.revive(place);
+            }
+            script.wait(1);
+        }
+        days.push(finished(script, 4));
+    }
+    days
+}
+
+/// Three servers that are ready at once, with every set of links cut.
+fn elections_with_cuts() -> Vec<Vec<u8>> {
+    let mut days = Vec::new();
+    for cuts in 0..64 {
+        let mut script = Script::new(3, &THREE[cuts % THREE.len()]);
+        for (at, (from, to)) in script.channel.links(false).into_iter().enumerate() {
+            if cuts >> at & 1 == 1 {
+                script.entry(Verb::Cut, from, to);
+            }
+        }
+        for place in 0..3 {
+            script.revive(place);
+        }
+        days.push(finished(script, 5));
+    }
+    days
+}
+
+/// A lower server that hears nothing reveals so that this is heard at each age of a prospect, and
+/// soon after it became primary.
+fn replies_at_each_age() -> Vec<Vec<u8>> {
+    let mut days = Vec::new();
+    for period in 2..=4 {
+        for later in 0..2 * period + 2 {
+            let table = PAIRS[(period + later) as usize % PAIRS.len()];
+            let higher = usize::from(table[1].1 >= table[0].1);
+            let mut script = Script::new(period, &table);
+            script.entry(Verb::Cut, higher, 1 - higher);
+            script.revive(higher);
+            script.wait(later);
+            script.revive(1 - higher);
+            script.wait(2 * period + 3);
+            script.entry(Verb::Mend, higher, 1 - higher);
+            days.push(finished(script, 3));
+        }
+    }
+    days
+}
+
+/// Two lower servers that do not hear the primary reveal in one frame or in two, in each frame from
+/// one of its beats to the next; they hear each other, or not.
+fn two_revealers() -> Vec<Vec<u8>> {
+    let mut days = Vec::new();
+    for frames in 0..3 {
+        for (first, apart) in [(0, 0), (0, 1), (1, 1)] {
+            for hear in [true, false] {
+                let mut script = Script::new(3, &THREE[0]);
+                script.entry(Verb::Cut, 2, 0);
+                script.entry(Verb::Cut, 2, 1);
+                if !hear {
+                    script.entry(Verb::Cut, 0, 1);
+                    script.entry(Verb::Cut, 1, 0);
+                }
+                script.revive(2);
+                script.wait(12 + frames);
+                script.revive(first);
+                script.wait(apart);
+                script.revive(1 - first);
+                script.wait(8);
+                script.entry(Verb::Mend, 2, 0);
+                days.push(finished(script, 3));
+            }
+        }
+    }
+    days
+}
+
+/// A primary passes in the frame of a lower server's reveal, and in those beside it.
+fn passes_beside_reveals() -> Vec<Vec<u8>> {
+    let mut days = Vec::new();
+    for to in [0, 1] {
+        for frame in 17..=20 {
+            let mut script = Script::new(3, &THREE[0]);
+            for place in 0..3 {
+                script.revive(place);
+            }
+            script.wait(14);
+            // it hears nothing from here on and reveals at 18
+            script.entry(Verb::Cut, 2, 0);
+            script.wait(frame - 14);
+            script.entry(Verb::Pass, 2, to);
+            days.push(finished(script, 5));
+        }
+    }
+    days
+}
+
+/// An entry in the frame of a reply, of a prospect and of a primary.
+fn entries_after_replies() -> Vec<Vec<u8>> {
+    let mut days = Vec::new();
+    for later in [1, 9] {
+        for turn in 0..6 {
+            let mut script = Script::new(3, &THREE[0]);
+            script.entry(Verb::Cut, 2, 0);
+            script.revive(2);
+            script.wait(later);
+            script.revive(0);
+            script.revive(1);
+            // the reveal at the sixth frame, and the reply
+            script.wait(7);
+            match turn {
+                0 => script.entry(Verb::Crash, 2, 2),
+                1 => {
+                    script.entry(Verb::Crash, 2, 2);
+                    script.revive(2);
+                }
+                2 => script.entry(Verb::Pass, 2, 1),
+                3 => script.entry(Verb::Cut, 2, 1),
+                4 => script.entry(Verb::Mend, 2, 0),
+                _ => script.entry(Verb::Crash, 0, 0),
+            }
             days.push(finished(script, 5));
         }
     }

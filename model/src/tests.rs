@@ -22,7 +22,7 @@ fn play(day: &str) -> String {
 }
 
 /// The day's sheet is the header and these lines.
-fn expect(day: &str, sheet: &str) {
+pub fn expect(day: &str, sheet: &str) {
     assert_eq!(play(&timed(day)), format!("time server what\n{}", timed(sheet)));
 }
 
@@ -48,9 +48,9 @@ fn expect_refusals(inputs: &[(&str, u32, u32)]) {
 const GROUP: &str = "period 2\nserver 1 10\nserver 2 20\n";
 const READY: &str = "@0 start 1\n@0 ready 1\n@0 start 2\n@0 ready 2\n";
 const READY_SHEET: &str = "@0 1 sync\n@0 1 backup\n@0 2 sync\n@0 2 backup\n";
-/// Frames 4 to 8 of D1.
+/// Frames 4 to 8 of D1: 2 replies at 5, so it beats in odd frames.
 const CHOICE_SHEET: &str = "@4 1 prospect\n@4 1 reveal\n@4 2 prospect\n@4 2 reveal\n\
-    @5 1 backup\n@6 2 beat\n@8 2 beat\n@8 2 primary\n";
+    @5 1 backup\n@5 2 beat\n@7 2 beat\n@8 2 primary\n";
 
 // Days worked by hand
 
@@ -69,40 +69,43 @@ fn d1_whole() {
         00:00:00:04 2 prospect\n\
         00:00:00:04 2 reveal\n\
         00:00:00:05 1 backup\n\
-        00:00:00:06 2 beat\n\
-        00:00:00:08 2 beat\n\
+        00:00:00:05 2 beat\n\
+        00:00:00:07 2 beat\n\
         00:00:00:08 2 primary\n";
     assert_eq!(play(day), sheet);
 }
 
-/// D2 and D3: the primary crashes in a frame with a beat, or after it; the sheet is the same but for that line.
-fn expect_crash_at(frame: u32) {
+/// One frame after the beat of 7, which 1 hears at 8: its silence is out at 12.
+#[test]
+fn d2_crash_at_8() {
     expect(
-        &format!("{GROUP}{READY}@{frame} crash 2\nend @18"),
+        &format!("{GROUP}{READY}@8 crash 2\nend @20"),
         &format!(
-            "{READY_SHEET}{CHOICE_SHEET}@{frame} 2 down\n\
-             @13 1 prospect\n@13 1 reveal\n@15 1 beat\n@17 1 beat\n@17 1 primary"
+            "{READY_SHEET}{CHOICE_SHEET}@8 2 down\n@12 1 prospect\n@12 1 reveal\n\
+             @14 1 beat\n@16 1 beat\n@16 1 primary\n@18 1 beat\n@20 1 beat"
+        ),
+    );
+}
+
+/// In the frame of a beat, which 1 hears at 10: its silence is out at 14.
+#[test]
+fn d3_crash_at_9() {
+    expect(
+        &format!("{GROUP}{READY}@9 crash 2\nend @20"),
+        &format!(
+            "{READY_SHEET}{CHOICE_SHEET}@9 2 beat\n@9 2 down\n@14 1 prospect\n@14 1 reveal\n\
+             @16 1 beat\n@18 1 beat\n@18 1 primary\n@20 1 beat"
         ),
     );
 }
 
 #[test]
-fn d2_crash_at_8() {
-    expect_crash_at(8);
-}
-
-#[test]
-fn d3_crash_at_9() {
-    expect_crash_at(9);
-}
-
-#[test]
 fn d4_pass_to_the_lower() {
     expect(
-        &format!("{GROUP}{READY}@8 pass 2 1\nend @16"),
+        &format!("{GROUP}{READY}@8 pass 2 1\nend @20"),
         &format!(
-            "{READY_SHEET}{CHOICE_SHEET}@8 2 pass\n@8 2 backup\n\
-             @9 1 prospect\n@9 1 beat\n@11 1 beat\n@13 1 beat\n@13 1 primary\n@15 1 beat"
+            "{READY_SHEET}{CHOICE_SHEET}@8 2 pass\n@8 2 backup\n@9 1 prospect\n@9 1 beat\n\
+             @11 1 beat\n@13 1 beat\n@13 1 primary\n@15 1 beat\n@17 1 beat\n@19 1 beat"
         ),
     );
 }
@@ -110,20 +113,22 @@ fn d4_pass_to_the_lower() {
 #[test]
 fn d5_tie() {
     expect(
-        &format!("period 2\nserver 1 20\nserver 2 20\n{READY}end @9"),
-        &format!("{READY_SHEET}{CHOICE_SHEET}"),
+        &format!("period 2\nserver 1 20\nserver 2 20\n{READY}end @12"),
+        &format!("{READY_SHEET}{CHOICE_SHEET}@9 2 beat\n@11 2 beat"),
     );
 }
 
+/// 3 replies once at 7, to the reveals of 2 and 1, and once at 8, to the second one of 2, which
+/// hears the first reply then.
 #[test]
 fn d6_three() {
     expect(
         "period 3\nserver 1 10\nserver 2 20\nserver 3 30\n\
-         @0 start 1\n@0 ready 1\n@0 start 2\n@0 ready 2\n@0 start 3\n@0 ready 3\nend @14",
+         @0 start 1\n@0 ready 1\n@0 start 2\n@0 ready 2\n@0 start 3\n@0 ready 3\nend @16",
         "@0 1 sync\n@0 1 backup\n@0 2 sync\n@0 2 backup\n@0 3 sync\n@0 3 backup\n\
          @6 1 prospect\n@6 1 reveal\n@6 2 prospect\n@6 2 reveal\n@6 3 prospect\n@6 3 reveal\n\
-         @7 1 backup\n@7 2 backup\n@7 2 prospect\n@7 2 reveal\n\
-         @9 3 beat\n@10 2 backup\n@12 3 beat\n@12 3 primary",
+         @7 1 backup\n@7 2 backup\n@7 2 prospect\n@7 2 reveal\n@7 3 beat\n\
+         @8 2 backup\n@8 3 beat\n@11 3 beat\n@12 3 primary\n@14 3 beat",
     );
 }
 
@@ -176,13 +181,15 @@ fn a_higher_server_that_becomes_ready_does_not_take_over() {
 
 #[test]
 fn hearing_comes_before_timers() {
-    // the beat of 8 is lost; the one of 10 comes in the frame in which silence runs out
+    // the beat of 9 is lost; the one of 11 comes in the frame in which silence runs out
     expect(
-        &format!("{GROUP}{READY}@8 cut 2 1\n@10 mend 2 1\nend @13"),
-        &format!("{READY_SHEET}{CHOICE_SHEET}@8 2 cut\n@10 2 beat\n@10 2 mended\n@12 2 beat"),
+        &format!("{GROUP}{READY}@9 cut 2 1\n@11 mend 2 1\nend @14"),
+        &format!(
+            "{READY_SHEET}{CHOICE_SHEET}@9 2 beat\n@9 2 cut\n@11 2 beat\n@11 2 mended\n@13 2 beat"
+        ),
     );
     // and without the mend it does run out
-    expect_last(&format!("{GROUP}{READY}@8 cut 2 1\nend @11"), "@11 1 reveal");
+    expect_last(&format!("{GROUP}{READY}@9 cut 2 1\nend @12"), "@12 1 reveal");
 }
 
 #[test]
@@ -193,7 +200,7 @@ fn a_beat_is_heard_in_the_frame_after_it_whatever_the_table_order() {
             &format!("period 2\n{group}{READY}end @8"),
             &format!(
                 "{READY_SHEET}@4 1 prospect\n@4 1 reveal\n@4 2 prospect\n@4 2 reveal\n\
-                 @5 2 backup\n@6 1 beat\n@8 1 beat\n@8 1 primary"
+                 @5 1 beat\n@5 2 backup\n@7 1 beat\n@8 1 primary"
             ),
         );
     }
@@ -431,20 +438,20 @@ fn reading_19_one_note_for_each_heartbeat() {
 #[test]
 fn reading_20_the_end_of_a_frame() {
     let chosen = format!("{READY_SHEET}{CHOICE_SHEET}");
-    // a link cut and mended in one frame is whole: 1 hears the beat of 8 and is quiet to 13
+    // a link cut and mended in one frame is whole: 1 hears the beat of 9 and is quiet to 14
     expect(
-        &format!("{GROUP}{READY}@8 cut 2 1\n@8 mend 2 1\n@8 crash 2\nend @12"),
-        &format!("{chosen}@8 2 cut\n@8 2 mended\n@8 2 down"),
+        &format!("{GROUP}{READY}@9 cut 2 1\n@9 mend 2 1\n@9 crash 2\nend @13"),
+        &format!("{chosen}@9 2 beat\n@9 2 cut\n@9 2 mended\n@9 2 down"),
     );
-    // cut in the frame of the beat, the link does not carry it: silence since 7
+    // cut in the frame of the beat, the link does not carry it: silence since 8
     expect(
-        &format!("{GROUP}{READY}@8 cut 2 1\n@8 crash 2\nend @11"),
-        &format!("{chosen}@8 2 cut\n@8 2 down\n@11 1 prospect\n@11 1 reveal"),
+        &format!("{GROUP}{READY}@9 cut 2 1\n@9 crash 2\nend @12"),
+        &format!("{chosen}@9 2 beat\n@9 2 cut\n@9 2 down\n@12 1 prospect\n@12 1 reveal"),
     );
     // cut in the frame after, too late
     expect(
-        &format!("{GROUP}{READY}@9 cut 2 1\n@9 crash 2\nend @13"),
-        &format!("{chosen}@9 2 cut\n@9 2 down\n@13 1 prospect\n@13 1 reveal"),
+        &format!("{GROUP}{READY}@10 cut 2 1\n@10 crash 2\nend @14"),
+        &format!("{chosen}@9 2 beat\n@10 2 cut\n@10 2 down\n@14 1 prospect\n@14 1 reveal"),
     );
     // the pass is heard though its sender crashed and is ready again
     expect(
@@ -461,7 +468,7 @@ fn reading_20_the_end_of_a_frame() {
         &format!("{GROUP}{READY}@7 unready 1\n@8 pass 2 1\n@8 ready 1\nend @9"),
         &format!(
             "{READY_SHEET}@4 1 prospect\n@4 1 reveal\n@4 2 prospect\n@4 2 reveal\n@5 1 backup\n\
-             @6 2 beat\n@7 1 sync\n@8 2 beat\n@8 2 primary\n@8 2 pass\n@8 2 backup\n@8 1 backup\n\
+             @5 2 beat\n@7 2 beat\n@7 1 sync\n@8 2 primary\n@8 2 pass\n@8 2 backup\n@8 1 backup\n\
              @9 1 prospect\n@9 1 beat"
         ),
     );

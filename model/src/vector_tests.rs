@@ -5,6 +5,7 @@ use crate::calls::role_digit;
 use crate::channel::{Channel, Verb};
 use crate::day;
 use crate::program::{compare, difference, tampered};
+use crate::reply_tests::{advance, kinds, KINDS};
 use crate::script::Rng;
 use crate::special::{self, Repeated};
 use crate::text::{read_timecode, LAST_FRAME};
@@ -144,6 +145,8 @@ fn replay(day: &[u8], stop: usize, seen: &mut Seen) {
     let mut group: Option<Channel> = None;
     let mut was_refused = false;
     let mut sent = Vec::new();
+    let mut replies = Vec::new();
+    let mut again: Vec<usize> = Vec::new();
     for line in day.split(|&byte| byte == b'\n').take(stop - 1).filter(|line| !line.is_empty()) {
         let line = std::str::from_utf8(line).expect("plain text");
         let fields: Vec<&str> = line.split('\t').collect();
@@ -169,7 +172,14 @@ fn replay(day: &[u8], stop: usize, seen: &mut Seen) {
                 while channel.frame < time {
                     count_hearing(channel, &mut sent, seen);
                     let mut notes = Vec::new();
-                    channel.advance(&mut notes);
+                    let replied = advance(channel, &mut notes);
+                    for reply in &replied {
+                        for kind in kinds(reply, &again) {
+                            seen.add(format!("reply {kind}"));
+                        }
+                    }
+                    again = replied.iter().map(|reply| reply.place).collect();
+                    replies.extend(replied);
                     let beats = notes.iter().filter(|note| ["beat", "reveal"].contains(&note.word));
                     sent.extend(beats.map(|note| (note.identity, note.word, 0)));
                     if !notes.is_empty() && channel.primaries().len() > 1 {
@@ -193,6 +203,13 @@ fn replay(day: &[u8], stop: usize, seen: &mut Seen) {
                 }
             }
         }
+    }
+    if !replies.is_empty() {
+        seen.add("days with a reply");
+    }
+    // up to the first reply that is seen, the sheet is the one without replies
+    if replies.iter().any(|reply| reply.is_seen) {
+        seen.add("days that replies change");
     }
 }
 
@@ -339,6 +356,11 @@ fn the_file_covers_every_word_refusal_and_role() {
     for verb in Verb::ALL {
         seen.expect(&format!("11 {}", verb.word()), 2);
     }
+    for kind in KINDS {
+        seen.expect(&format!("reply {kind}"), 5);
+    }
+    seen.expect("days with a reply", COUNT.div_ceil(3));
+    seen.expect("days that replies change", COUNT.div_ceil(3));
     seen.expect("11 end", 5);
     for count in 1..=16 {
         seen.expect(&format!("{count} servers"), 1);

@@ -20,7 +20,7 @@ use Rattle.heartbeat.specs.Rank.{higher}
 use Rattle.heartbeat.specs.Heartbeat.{isSet, readFields, readBody, readHeartbeat, heartbeatLine}
 use Rattle.periods.specs.Period.{takePeriod}
 use Rattle.server.specs.Server.{oneMore, sentBy, sentAny, after}
-use Rattle.server.specs.Hearing.{forThis, backupHears, prospectHears, primaryHears, heardAll}
+use Rattle.server.specs.Hearing.{forThis, backupHears, replies, prospectHears, primaryHears, heardAll}
 use Rattle.server.specs.Timers.{afterSilent, afterBeating, afterRising}
 use Rattle.roles.specs.Verbs.{from, enters, entering, verbHappens}
 use Rattle.server.specs.Verbs.{verbAnswer}
@@ -66,7 +66,7 @@ so (heartbeat l set w) e =
     )
 
 whole : every holds rows ≡ true
-unfolding holds sameBool choose same splitOn upTo inTurn digits value wellWritten readNumber readLine label twoBelow isLabel frameOf readTimecode higher readFields readBody readHeartbeat heartbeatLine takePeriod oneMore sentBy sentAny after forThis backupHears prospectHears primaryHears afterSilent afterBeating afterRising from enters entering verbHappens verbAnswer placeIn standsBefore enter anew isNew follows rises isTable addRefusal added freshRefusal line linesOf hearsFrom comes nextAmong nextSender sendersAfter sentByAll inbox heardAll heardLines timedLines hearing turned turnLines turnsLines advanced frameLines namesNobody known stateRefusal verbRefusal did advancedBy linesBy linesIn whenGood having verbNamed bodyRead lineRead addEffect callEffect entryEffect endEffect opening effectOf inputRefusal sheetFrom sheet
+unfolding holds sameBool choose same splitOn upTo inTurn digits value wellWritten readNumber readLine label twoBelow isLabel frameOf readTimecode higher readFields readBody readHeartbeat heartbeatLine takePeriod oneMore sentBy sentAny after forThis backupHears replies prospectHears primaryHears afterSilent afterBeating afterRising from enters entering verbHappens verbAnswer placeIn standsBefore enter anew isNew follows rises isTable addRefusal added freshRefusal line linesOf hearsFrom comes nextAmong nextSender sendersAfter sentByAll inbox heardAll heardLines timedLines hearing turned turnLines turnsLines advanced frameLines namesNobody known stateRefusal verbRefusal did advancedBy linesBy linesIn whenGood having verbNamed bodyRead lineRead addEffect callEffect entryEffect endEffect opening effectOf inputRefusal sheetFrom sheet
 whole = refl
 
 pub worked-days : WorkedDays

@@ -34,17 +34,17 @@ Says (heartbeat l revealed w) =
 abbrev pub rows : List Row
 rows =
     -- D1
-    day (bytes "period\t2\nserver\t1\t10\nserver\t2\t20\n00:00:00:00\tstart\t1\n00:00:00:00\tready\t1\n00:00:00:00\tstart\t2\n00:00:00:00\tready\t2\nend\t00:00:00:08\n") (bytes "time\tserver\twhat\n00:00:00:00\t1\tsync\n00:00:00:00\t1\tbackup\n00:00:00:00\t2\tsync\n00:00:00:00\t2\tbackup\n00:00:00:04\t1\tprospect\n00:00:00:04\t1\treveal\n00:00:00:04\t2\tprospect\n00:00:00:04\t2\treveal\n00:00:00:05\t1\tbackup\n00:00:00:06\t2\tbeat\n00:00:00:08\t2\tbeat\n00:00:00:08\t2\tprimary\n")
+    day (bytes "period\t2\nserver\t1\t10\nserver\t2\t20\n00:00:00:00\tstart\t1\n00:00:00:00\tready\t1\n00:00:00:00\tstart\t2\n00:00:00:00\tready\t2\nend\t00:00:00:08\n") (bytes "time\tserver\twhat\n00:00:00:00\t1\tsync\n00:00:00:00\t1\tbackup\n00:00:00:00\t2\tsync\n00:00:00:00\t2\tbackup\n00:00:00:04\t1\tprospect\n00:00:00:04\t1\treveal\n00:00:00:04\t2\tprospect\n00:00:00:04\t2\treveal\n00:00:00:05\t1\tbackup\n00:00:00:05\t2\tbeat\n00:00:00:07\t2\tbeat\n00:00:00:08\t2\tprimary\n")
     -- D2
-    ∷ day (bytes "period\t2\nserver\t1\t10\nserver\t2\t20\n00:00:00:00\tstart\t1\n00:00:00:00\tready\t1\n00:00:00:00\tstart\t2\n00:00:00:00\tready\t2\n00:00:00:08\tcrash\t2\nend\t00:00:00:18\n") (bytes "time\tserver\twhat\n00:00:00:00\t1\tsync\n00:00:00:00\t1\tbackup\n00:00:00:00\t2\tsync\n00:00:00:00\t2\tbackup\n00:00:00:04\t1\tprospect\n00:00:00:04\t1\treveal\n00:00:00:04\t2\tprospect\n00:00:00:04\t2\treveal\n00:00:00:05\t1\tbackup\n00:00:00:06\t2\tbeat\n00:00:00:08\t2\tbeat\n00:00:00:08\t2\tprimary\n00:00:00:08\t2\tdown\n00:00:00:13\t1\tprospect\n00:00:00:13\t1\treveal\n00:00:00:15\t1\tbeat\n00:00:00:17\t1\tbeat\n00:00:00:17\t1\tprimary\n")
+    ∷ day (bytes "period\t2\nserver\t1\t10\nserver\t2\t20\n00:00:00:00\tstart\t1\n00:00:00:00\tready\t1\n00:00:00:00\tstart\t2\n00:00:00:00\tready\t2\n00:00:00:08\tcrash\t2\nend\t00:00:00:20\n") (bytes "time\tserver\twhat\n00:00:00:00\t1\tsync\n00:00:00:00\t1\tbackup\n00:00:00:00\t2\tsync\n00:00:00:00\t2\tbackup\n00:00:00:04\t1\tprospect\n00:00:00:04\t1\treveal\n00:00:00:04\t2\tprospect\n00:00:00:04\t2\treveal\n00:00:00:05\t1\tbackup\n00:00:00:05\t2\tbeat\n00:00:00:07\t2\tbeat\n00:00:00:08\t2\tprimary\n00:00:00:08\t2\tdown\n00:00:00:12\t1\tprospect\n00:00:00:12\t1\treveal\n00:00:00:14\t1\tbeat\n00:00:00:16\t1\tbeat\n00:00:00:16\t1\tprimary\n00:00:00:18\t1\tbeat\n00:00:00:20\t1\tbeat\n")
     -- D3
-    ∷ day (bytes "period\t2\nserver\t1\t10\nserver\t2\t20\n00:00:00:00\tstart\t1\n00:00:00:00\tready\t1\n00:00:00:00\tstart\t2\n00:00:00:00\tready\t2\n00:00:00:09\tcrash\t2\nend\t00:00:00:18\n") (bytes "time\tserver\twhat\n00:00:00:00\t1\tsync\n00:00:00:00\t1\tbackup\n00:00:00:00\t2\tsync\n00:00:00:00\t2\tbackup\n00:00:00:04\t1\tprospect\n00:00:00:04\t1\treveal\n00:00:00:04\t2\tprospect\n00:00:00:04\t2\treveal\n00:00:00:05\t1\tbackup\n00:00:00:06\t2\tbeat\n00:00:00:08\t2\tbeat\n00:00:00:08\t2\tprimary\n00:00:00:09\t2\tdown\n00:00:00:13\t1\tprospect\n00:00:00:13\t1\treveal\n00:00:00:15\t1\tbeat\n00:00:00:17\t1\tbeat\n00:00:00:17\t1\tprimary\n")
+    ∷ day (bytes "period\t2\nserver\t1\t10\nserver\t2\t20\n00:00:00:00\tstart\t1\n00:00:00:00\tready\t1\n00:00:00:00\tstart\t2\n00:00:00:00\tready\t2\n00:00:00:09\tcrash\t2\nend\t00:00:00:20\n") (bytes "time\tserver\twhat\n00:00:00:00\t1\tsync\n00:00:00:00\t1\tbackup\n00:00:00:00\t2\tsync\n00:00:00:00\t2\tbackup\n00:00:00:04\t1\tprospect\n00:00:00:04\t1\treveal\n00:00:00:04\t2\tprospect\n00:00:00:04\t2\treveal\n00:00:00:05\t1\tbackup\n00:00:00:05\t2\tbeat\n00:00:00:07\t2\tbeat\n00:00:00:08\t2\tprimary\n00:00:00:09\t2\tbeat\n00:00:00:09\t2\tdown\n00:00:00:14\t1\tprospect\n00:00:00:14\t1\treveal\n00:00:00:16\t1\tbeat\n00:00:00:18\t1\tbeat\n00:00:00:18\t1\tprimary\n00:00:00:20\t1\tbeat\n")
     -- D4
-    ∷ day (bytes "period\t2\nserver\t1\t10\nserver\t2\t20\n00:00:00:00\tstart\t1\n00:00:00:00\tready\t1\n00:00:00:00\tstart\t2\n00:00:00:00\tready\t2\n00:00:00:08\tpass\t2\t1\nend\t00:00:00:14\n") (bytes "time\tserver\twhat\n00:00:00:00\t1\tsync\n00:00:00:00\t1\tbackup\n00:00:00:00\t2\tsync\n00:00:00:00\t2\tbackup\n00:00:00:04\t1\tprospect\n00:00:00:04\t1\treveal\n00:00:00:04\t2\tprospect\n00:00:00:04\t2\treveal\n00:00:00:05\t1\tbackup\n00:00:00:06\t2\tbeat\n00:00:00:08\t2\tbeat\n00:00:00:08\t2\tprimary\n00:00:00:08\t2\tpass\n00:00:00:08\t2\tbackup\n00:00:00:09\t1\tprospect\n00:00:00:09\t1\tbeat\n00:00:00:11\t1\tbeat\n00:00:00:13\t1\tbeat\n00:00:00:13\t1\tprimary\n")
+    ∷ day (bytes "period\t2\nserver\t1\t10\nserver\t2\t20\n00:00:00:00\tstart\t1\n00:00:00:00\tready\t1\n00:00:00:00\tstart\t2\n00:00:00:00\tready\t2\n00:00:00:08\tpass\t2\t1\nend\t00:00:00:20\n") (bytes "time\tserver\twhat\n00:00:00:00\t1\tsync\n00:00:00:00\t1\tbackup\n00:00:00:00\t2\tsync\n00:00:00:00\t2\tbackup\n00:00:00:04\t1\tprospect\n00:00:00:04\t1\treveal\n00:00:00:04\t2\tprospect\n00:00:00:04\t2\treveal\n00:00:00:05\t1\tbackup\n00:00:00:05\t2\tbeat\n00:00:00:07\t2\tbeat\n00:00:00:08\t2\tprimary\n00:00:00:08\t2\tpass\n00:00:00:08\t2\tbackup\n00:00:00:09\t1\tprospect\n00:00:00:09\t1\tbeat\n00:00:00:11\t1\tbeat\n00:00:00:13\t1\tbeat\n00:00:00:13\t1\tprimary\n00:00:00:15\t1\tbeat\n00:00:00:17\t1\tbeat\n00:00:00:19\t1\tbeat\n")
     -- D5
-    ∷ day (bytes "period\t2\nserver\t1\t20\nserver\t2\t20\n00:00:00:00\tstart\t1\n00:00:00:00\tready\t1\n00:00:00:00\tstart\t2\n00:00:00:00\tready\t2\nend\t00:00:00:09\n") (bytes "time\tserver\twhat\n00:00:00:00\t1\tsync\n00:00:00:00\t1\tbackup\n00:00:00:00\t2\tsync\n00:00:00:00\t2\tbackup\n00:00:00:04\t1\tprospect\n00:00:00:04\t1\treveal\n00:00:00:04\t2\tprospect\n00:00:00:04\t2\treveal\n00:00:00:05\t1\tbackup\n00:00:00:06\t2\tbeat\n00:00:00:08\t2\tbeat\n00:00:00:08\t2\tprimary\n")
+    ∷ day (bytes "period\t2\nserver\t1\t20\nserver\t2\t20\n00:00:00:00\tstart\t1\n00:00:00:00\tready\t1\n00:00:00:00\tstart\t2\n00:00:00:00\tready\t2\nend\t00:00:00:12\n") (bytes "time\tserver\twhat\n00:00:00:00\t1\tsync\n00:00:00:00\t1\tbackup\n00:00:00:00\t2\tsync\n00:00:00:00\t2\tbackup\n00:00:00:04\t1\tprospect\n00:00:00:04\t1\treveal\n00:00:00:04\t2\tprospect\n00:00:00:04\t2\treveal\n00:00:00:05\t1\tbackup\n00:00:00:05\t2\tbeat\n00:00:00:07\t2\tbeat\n00:00:00:08\t2\tprimary\n00:00:00:09\t2\tbeat\n00:00:00:11\t2\tbeat\n")
     -- D6
-    ∷ day (bytes "period\t3\nserver\t1\t10\nserver\t2\t20\nserver\t3\t30\n00:00:00:00\tstart\t1\n00:00:00:00\tready\t1\n00:00:00:00\tstart\t2\n00:00:00:00\tready\t2\n00:00:00:00\tstart\t3\n00:00:00:00\tready\t3\nend\t00:00:00:13\n") (bytes "time\tserver\twhat\n00:00:00:00\t1\tsync\n00:00:00:00\t1\tbackup\n00:00:00:00\t2\tsync\n00:00:00:00\t2\tbackup\n00:00:00:00\t3\tsync\n00:00:00:00\t3\tbackup\n00:00:00:06\t1\tprospect\n00:00:00:06\t1\treveal\n00:00:00:06\t2\tprospect\n00:00:00:06\t2\treveal\n00:00:00:06\t3\tprospect\n00:00:00:06\t3\treveal\n00:00:00:07\t1\tbackup\n00:00:00:07\t2\tbackup\n00:00:00:07\t2\tprospect\n00:00:00:07\t2\treveal\n00:00:00:09\t3\tbeat\n00:00:00:10\t2\tbackup\n00:00:00:12\t3\tbeat\n00:00:00:12\t3\tprimary\n")
+    ∷ day (bytes "period\t3\nserver\t1\t10\nserver\t2\t20\nserver\t3\t30\n00:00:00:00\tstart\t1\n00:00:00:00\tready\t1\n00:00:00:00\tstart\t2\n00:00:00:00\tready\t2\n00:00:00:00\tstart\t3\n00:00:00:00\tready\t3\nend\t00:00:00:16\n") (bytes "time\tserver\twhat\n00:00:00:00\t1\tsync\n00:00:00:00\t1\tbackup\n00:00:00:00\t2\tsync\n00:00:00:00\t2\tbackup\n00:00:00:00\t3\tsync\n00:00:00:00\t3\tbackup\n00:00:00:06\t1\tprospect\n00:00:00:06\t1\treveal\n00:00:00:06\t2\tprospect\n00:00:00:06\t2\treveal\n00:00:00:06\t3\tprospect\n00:00:00:06\t3\treveal\n00:00:00:07\t1\tbackup\n00:00:00:07\t2\tbackup\n00:00:00:07\t2\tprospect\n00:00:00:07\t2\treveal\n00:00:00:07\t3\tbeat\n00:00:00:08\t2\tbackup\n00:00:00:08\t3\tbeat\n00:00:00:11\t3\tbeat\n00:00:00:12\t3\tprimary\n00:00:00:14\t3\tbeat\n")
     -- D7, two servers
     ∷ day (bytes "period\t2\nserver\t1\t10\nserver\t2\t20\nend\t00:00:00:00\n") (bytes "time\tserver\twhat\n")
     -- D7, three

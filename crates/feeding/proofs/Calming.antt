@@ -46,6 +46,7 @@ Plain event.ToBackup = 0 < 1
 Plain event.ToProspectBeat = 0 < 1
 Plain event.ToProspectReveal = 0 < 1
 Plain event.Lower = 0 < 1
+Plain event.LowerBeat = 0 < 1
 Plain event.Beat = 0 < 1
 Plain event.ToPrimary = 0 < 1
 Plain event.ToSync = 0 < 1
@@ -67,6 +68,7 @@ small-after t s event.ToBackup q p = record { identity = q .identity; beats = q 
 small-after t s event.ToProspectBeat q p = record { identity = q .identity; beats = most-beats (s .beats); pass = q .pass }
 small-after t s event.ToProspectReveal q p = record { identity = q .identity; beats = q .beats; pass = q .pass }
 small-after t s event.Lower q p = q
+small-after t s event.LowerBeat q p = record { identity = q .identity; beats = most-beats (s .beats); pass = q .pass }
 small-after t s event.Beat q p = record { identity = q .identity; beats = most-beats (s .beats); pass = q .pass }
 small-after t s event.ToPrimary q p = record { identity = q .identity; beats = q .beats; pass = q .pass }
 small-after t s event.ToSync q p = record { identity = q .identity; beats = q .beats; pass = q .pass }
@@ -80,8 +82,8 @@ hears-plain Down s h = plain
 hears-plain Idle s h = plain
 hears-plain Sync s h = plain
 hears-plain Backup s h = by-choice Plain _ (λ t. plain) (λ t. by-choice Plain _ (λ t. plain) (λ t. plain))
-hears-plain Prospect s h = by-choice Plain _ (λ t. plain) (λ t. plain)
-hears-plain Primary s h = by-choice Plain _ (λ t. plain) (λ t. by-choice Plain _ (λ t. plain) (λ t. plain))
+hears-plain Prospect s h = by-choice Plain _ (λ t. plain) (λ t. by-choice Plain _ (λ t. plain) (λ t. plain))
+hears-plain Primary s h = by-choice Plain _ (λ t. plain) (λ t. by-choice Plain _ (λ t. plain) (λ t. by-choice Plain _ (λ t. plain) (λ t. plain)))
 
 attending-small : (t : ℕ) (r : Role) (s : Server) → Small s → Small (attending t r s)
 attending-small t Down s q = q

@@ -121,6 +121,7 @@ same-identity t s event.ToBackup = refl
 same-identity t s event.ToProspectBeat = refl
 same-identity t s event.ToProspectReveal = refl
 same-identity t s event.Lower = refl
+same-identity t s event.LowerBeat = refl
 same-identity t s event.Beat = refl
 same-identity t s event.ToPrimary = refl
 same-identity t s event.ToSync = refl

@@ -9,7 +9,9 @@ use borrow.Author.Tests.{lt-ltb, le-ltb, ltb-true, eqb-true, eqb-false, eq-eqb}
 use lib.Dec.{eqb, ltb}
 use lib.ListN.{getD, replicate, take}
 use Rattle.lists.specs.Choice.{choose}
-use Rattle.lists.proofs.Cases.{less, on, chosen, other, by-choice, clash, and-right, fst-true, snd-true, not-so}
+use Rattle.lists.specs.Lists.{every}
+use Rattle.lists.proofs.Cases.{less, on, chosen, other, by-choice, clash, and-true, and-right, fst-true, snd-true, not-so}
+use Rattle.lists.proofs.Clear.{every-front, every-back}
 use Rattle.heartbeat.specs.declared.Heartbeat.{Heartbeat}
 use Rattle.heartbeat.specs.Rank.{higher}
 use Rattle.heartbeat.specs.Heartbeat.{isSet}
@@ -28,10 +30,10 @@ use Rattle.roles.specs.Roles.{isActive}
 use Rattle.places.specs.Words.{rankNumber}
 use Rattle.places.specs.Roles.{isBackup, isStill, isProspect}
 use Rattle.places.specs.Order.{overBy, comesBy, heardBy}
-use Rattle.frame.specs.Steps.{Out, Hears, heedsOnly, SenderList, senderOf, bestBy, nextBy, sendersBy, sentOf}
+use Rattle.frame.specs.Steps.{Out, Hears, heedsOnly, higherAt, SenderList, senderOf, bestBy, heardOf, nextBy, sendersBy, sentOf}
 use Rattle.places.proofs.Roles.{still-by}
 use Rattle.frame.proofs.Writing.{start}
-use Rattle.server.proofs.Hearing.{heard-append}
+use Rattle.server.proofs.Hearing.{heard-append, sent-no-reply}
 use Rattle.frame.proofs.Hearings.{said-append, backup-is}
 use Rattle.frame.proofs.Lookup.{higher-number, inboxAfter, some-by, none-by}
 
@@ -70,7 +72,7 @@ module _ {t : ℕ} where
   silent-again h e zero = silent-none
   silent-again h e (suc n) = silent-more e (silent-again h e n)
 
--- ---- a prospect that hears nobody higher
+-- ---- a prospect that has sent, and hears nobody higher
 
 pub prospect-is : (r : Role) → isProspect r ≡ true → r ≡ role.Prospect
 prospect-is role.Down e = absurd (clash e refl)
@@ -80,12 +82,13 @@ prospect-is role.Backup e = absurd (clash e refl)
 prospect-is role.Prospect e = refl
 prospect-is role.Primary e = absurd (clash e refl)
 
-module _ (t : ℕ) (s : Server) (q : s .role ≡ role.Prospect) where
+module _ (t : ℕ) (s : Server) (q : s .role ≡ role.Prospect) (sent : sentAny s ≡ true) where
   prospect-one : (h : Heartbeat) → fromHigher s h ≡ false → heard t s h ≡ record { server = s; event = event.Nothing }
   unfolding after prospectHears
   prospect-one h e =
       ap (λ (r : Role). record { server = after t (attending t r s) (hearsIn r s h); event = hearsIn r s h }) q
-      ∙ ap (λ (v : Event). record { server = after t s v; event = v }) (other event.ToBackup e)
+      ∙ ap (λ (v : Event). record { server = after t s v; event = v })
+      (other event.ToBackup e ∙ other event.Beat (sent-no-reply s h sent))
 
   -- all that the sender x sent
   prospect-all : (x : Server) → higher (rankOf x) (rankOf s) ≡ false → Silent t s (sentBy x) s
@@ -115,8 +118,9 @@ module _ (r : SenderList) (w : List Bool) (j : ℕ) where
   next-under last h g =
       ltb-true _ _ (sym (chosen true (lt-ltb last 16 h)) ∙ best-under (r .ranks) w j last (take (r .count) (r .places)) 16 (λ z. absurd (omega arith)) g)
 
-  -- so a prospect that is not below the next sender stays as it is, whatever is left to hear
-  module _ (t : ℕ) (s : Server) (q : s .role ≡ role.Prospect) (fits : s .identity < 65536) where
+  -- so a prospect that has sent and is not below the next sender stays as it is, whatever is left
+  -- to hear
+  module _ (t : ℕ) (s : Server) (q : s .role ≡ role.Prospect) (sent : sentAny s ≡ true) (fits : s .identity < 65536) where
     from-low : (rank sending : ℕ) → rank ≤ rankNumber s → higher (rankOf (senderOf rank sending)) (rankOf s) ≡ false
     from-low rank sending h =
         let a = rankOf (senderOf rank sending) in
@@ -132,7 +136,7 @@ module _ (r : SenderList) (w : List Bool) (j : ℕ) where
         (λ h.
         subst (λ (l : List ℕ). Silent t s (sentOf r l) s) (sym (some-by r w j n last i e h))
         (silent-then
-        (prospect-all t s q (senderOf (getD (r .ranks) i 0) (getD (r .sendings) i 0)) (from-low (getD (r .ranks) i 0) (getD (r .sendings) i 0) (u h)))
+        (prospect-all t s q sent (senderOf (getD (r .ranks) i 0) (getD (r .sendings) i 0)) (from-low (getD (r .ranks) i 0) (getD (r .sendings) i 0) (u h)))
         (stays-all n i (nextBy r w j i) refl (λ g. let k = next-under i h g in let m = u h in omega arith))))
         (λ h. subst (λ (l : List ℕ). Silent t s (sentOf r l) s) (sym (none-by r w j n last i e h)) silent-none)
 
@@ -186,6 +190,42 @@ heeds-silently t s rank sending fits e =
   where
     one : (sending ≡ 0 → ⊥) → sending % 65536 ≡ 0 → sending / 131072 ≡ 0 → sending / 65536 % 2 ≡ 1
     one a b c = on (less 0 sending) (λ h. omega arith) (λ h. absurd (a (omega arith)))
+
+-- ---- a backup that hears higher senders only
+
+-- what holds of all that are heard holds of the best of them
+module _ (ranks : List ℕ) (w : List Bool) (j last : ℕ) (p : ℕ → Bool) where
+  best-has : (is : List ℕ) (best : ℕ) → every p (heardOf w j is) ≡ true → (best < 16 → p best ≡ true) → bestBy ranks w j last best is < 16 → p (bestBy ranks w j last best is) ≡ true
+  unfolding heardOf
+  best-has [] best e u = u
+  best-has (i ∷ is) best e u =
+      best-has is (choose (comesBy ranks (heardBy w j i) last best i) i best)
+      (every-back p (choose (heardBy w j i) (i ∷ []) []) (heardOf w j is) e)
+      (by-choice (λ (b : ℕ). b < 16 → p b ≡ true) (comesBy ranks (heardBy w j i) last best i)
+      (λ t h. fst-true (p i) true (sym (ap (every p) (chosen {a = i ∷ []} [] (fst-true (heardBy w j i) _ t))) ∙ every-front p (choose (heardBy w j i) (i ∷ []) []) (heardOf w j is) e))
+      (λ t. u))
+
+-- it has heard in the frame, so whatever is left changes nothing
+module _ (r : SenderList) (w : List Bool) (j : ℕ) (t : ℕ) (s : Server) (back : isBackup (s .role) ≡ true) (set : s .silence ≡ t) (fits : s .identity < 65536)
+    (only : every (higherAt (r .ranks) (r .sendings) (rankNumber s)) (heardOf w j (take (r .count) (r .places))) ≡ true) where
+  heeded-one : (i : ℕ) → higherAt (r .ranks) (r .sendings) (rankNumber s) i ≡ true → Silent t s (sentBy (senderOf (getD (r .ranks) i 0) (getD (r .sendings) i 0))) s
+  heeded-one i e =
+      subst (λ (k : ℕ). Silent t s (sentBy (senderOf (getD (r .ranks) i 0) (getD (r .sendings) i 0))) (setSilence k s)) (sym set)
+      (subst (λ (k : ℕ). Silent k s (sentBy (senderOf (getD (r .ranks) i 0) (getD (r .sendings) i 0))) (setSilence k s)) refl
+      (heeds-silently t s (getD (r .ranks) i 0) (getD (r .sendings) i 0) fits (and-true back e)))
+
+  pub listened-all : (n last i : ℕ) → i ≡ nextBy r w j last → Silent t s (inboxAfter r w j n last) s
+  unfolding sendersBy sentOf
+  listened-all zero last i e = silent-none
+  listened-all (suc n) last i e =
+      on (less i 16)
+      (λ h.
+      subst (λ (l : List ℕ). Silent t s (sentOf r l) s) (sym (some-by r w j n last i e h))
+      (silent-then
+      (heeded-one i (subst (λ (k : ℕ). higherAt (r .ranks) (r .sendings) (rankNumber s) k ≡ true) (sym e)
+      (best-has (r .ranks) w j last (higherAt (r .ranks) (r .sendings) (rankNumber s)) (take (r .count) (r .places)) 16 only (λ z. absurd (omega arith)) (subst (λ (k : ℕ). k < 16) e h))))
+      (listened-all n i (nextBy r w j i) refl)))
+      (λ h. subst (λ (l : List ℕ). Silent t s (sentOf r l) s) (sym (none-by r w j n last i e h)) silent-none)
 
 -- ---- who takes no part hears nothing
 

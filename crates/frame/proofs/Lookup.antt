@@ -23,7 +23,9 @@ use Rattle.frame.specs.Steps.{SenderList, sentBelow, senderOf, Listed, N
 use Rattle.group.specs.Table.{most}
 use Rattle.group.specs.Hearing.{place, whole, noPlace, hearsFrom, over, isPlace, comes, nextAmong, nextSender, sendersAfter, sentByAll, inbox}
 use Rattle.places.specs.Words.{rankNumber, sendingNumber}
-use Rattle.places.specs.Order.{overBy, comesBy, heardBy}
+use Rattle.places.specs.declared.Best.{Best}
+use Rattle.places.specs.Order.{overBy, comesBy, heardBy, rankEnd, rankUnder, betterOf}
+use Rattle.places.proofs.Order.{IsBest, best-turn}
 use Rattle.places.proofs.Words.{parts}
 
 -- ---- the numbers of the servers
@@ -138,7 +140,7 @@ pub record Looking (ranks : List ℕ) (last : ℕ) (l : List ℕ) (n k best : �
   pub within : k ≤ n
   pub ends : bestIn ranks last best (drop k (take n l)) ≡ bestIn ranks last 16 (take n l)
 
-long : {l : List ℕ} {n : ℕ} → Listed l n → length (take n l) ≡ n
+pub long : {l : List ℕ} {n : ℕ} → Listed l n → length (take n l) ≡ n
 long {l} {n} v = length-take-le n l (omega (arith, v .few, v .room))
 
 module _ {ranks : List ℕ} {last : ℕ} {l : List ℕ} {n : ℕ} where
@@ -163,6 +165,17 @@ module _ {ranks : List ℕ} {last : ℕ} {l : List ℕ} {n : ℕ} where
   pub look-end : {k best : ℕ} → Listed l n → Looking ranks last l n k best → n ≤ k → best ≡ bestIn ranks last 16 (take n l)
   look-end {k} {best} v u h =
       ap (bestIn ranks last best) (sym (drop-of-length-le (take n l) (let g : length (take n l) ≤ k = omega (arith, long v) in g))) ∙ u .ends
+
+  -- one place more is looked at
+  pub best-look :
+      {k rank i : ℕ} {best next : Best} → Listed l n → Looking ranks last l n k (best .place) → IsBest ranks best → k < n → i ≡ getD l k 0 → rank ≡ getD ranks i 0 →
+      (next ≡ betterOf (rankUnder ranks last) best rank i) × (rank < rankEnd) → Looking ranks last l n (k + 1) (next .place) × IsBest ranks next
+  best-look {k} {rank} {i} {best} v u q h j r e =
+      let t = best-turn ranks last i (subst (λ (x : ℕ). x < rankEnd) r (e .1)) best q (subst (λ (x : ℕ). x < 16) (sym j) (v .places k h)) in
+      let is = e .0 ∙ ap (λ (x : ℕ). betterOf (rankUnder ranks last) best x i) r in (
+        look-turn v u h (ap (λ (x : Best). x .place) is ∙ t .0 ∙ ap (λ (x : ℕ). choose (comesBy ranks true last (best .place) x) x (best .place)) j),
+        subst (IsBest ranks) (sym is) (t .1),
+      )
 
 -- the best of those that are heard is the best of all
 pub best-heard : (ranks : List ℕ) (w : List Bool) (j last best : ℕ) (is : List ℕ) → bestIn ranks last best (heardOf w j is) ≡ bestBy ranks w j last best is

@@ -44,13 +44,25 @@ pub record Hears (t : ℕ) (wet : Bool) (s : Server) (hs : List Heartbeat) (d : 
   pub server : r .server ≡ heardAll t s hs
   pub out : Out wet d at (heardLines t s hs) (r .at) d′
 
--- the prospect s is not below the rank r
+-- the prospect s has sent, and is not below the rank r
 abbrev pub staysUnder : Server → ℕ → Bool
-staysUnder s r = isProspect (s .role) && leb r (rankNumber s)
+staysUnder s r = isProspect (s .role) && (sentAny s && leb r (rankNumber s))
 
--- the backup s is below the rank r of a sender that sent n, and passed to nobody
+-- a sender of the rank r, over that of its hearer, sent n, and passed to nobody
+abbrev pub higherBeats : ℕ → ℕ → ℕ → Bool
+higherBeats own r n = ltb own r && (not (eqb n 0) && eqb (n % revealUnit) 0)
+
+-- so the backup s only listens to it
 abbrev pub heedsOnly : Server → ℕ → ℕ → Bool
-heedsOnly s r n = isBackup (s .role) && (ltb (rankNumber s) r && (not (eqb n 0) && eqb (n % revealUnit) 0))
+heedsOnly s r n = isBackup (s .role) && higherBeats (rankNumber s) r n
+
+-- place i is such a sender
+abbrev pub higherAt : List ℕ → List ℕ → ℕ → ℕ → Bool
+higherAt ranks sendings own i = higherBeats own (getD ranks i 0) (getD sendings i 0)
+
+-- the backup s of that rank has heard in the frame t, and all that it hears are such senders
+abbrev pub hasListened : Server → ℕ → ℕ → Bool → Bool
+hasListened s t own only = only && (isBackup (s .role) && (eqb (s .silence) t && eqb (rankNumber s) own))
 
 -- a backup hears plain beats, and nothing else, of the sender x
 abbrev pub onlyListens : Server → Server → Bool

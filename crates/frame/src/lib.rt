@@ -4,6 +4,7 @@ use group::Servers;
 use group::Table;
 use heartbeat::Heartbeat;
 use periods::Period;
+use places::Best;
 use places::Packed;
 use roles::Event;
 use roles::Role;
@@ -11,13 +12,13 @@ use roles::Said;
 use roles::Word;
 use server::Server;
 ghost use mathlib.Core.Path.{_≡_};
-ghost use mathlib.Core.Bool.{Bool};
+ghost use mathlib.Core.Bool.{Bool, _||_};
 ghost use mathlib.Core.List.{[], _∷_};
 ghost use Prim.Native.Nat.{_+_, _<_, _≤_};
 ghost use lib.Dec.{leb, eqb};
 ghost use lib.ListN.{length, replicate, take, getD, set};
 ghost use Rattle.lists.specs.Choice.{choose};
-ghost use Rattle.lists.specs.Lists.{mapFrom};
+ghost use Rattle.lists.specs.Lists.{every, mapFrom};
 ghost use Rattle.server.specs.Server.{absent, setSilence, cleared, passOf, sentBy};
 ghost use Rattle.roles.specs.Words.{said};
 ghost use Rattle.server.specs.Timers.{aged, timed};
@@ -25,7 +26,7 @@ ghost use Rattle.lines.specs.Lines.{linesOf};
 ghost use Rattle.group.specs.Frame.{timedLines, frameLines};
 ghost use Rattle.places.specs.Words.{serversOf, Keeps, packed, roleUnit, sendingEnd};
 ghost use Rattle.frame.specs.Answers.{lastFrame, stateOf, ticksIn, Plays, Counts};
-ghost use Rattle.frame.specs.Steps.{Out, Hears, Does, staysUnder, heedsOnly, JustListens, onlyListens, senderOf, Ranked, Still, bestIn, Near, inboxBy, Deaf, clearing, Listed, Numbers, Sends, Lists, Turns, Runs, TicksAt, TicksAll, Loud, mostBytes, HeardAlso, Hearers, clamped};
+ghost use Rattle.frame.specs.Steps.{Out, Hears, Does, staysUnder, higherBeats, heedsOnly, higherAt, hasListened, JustListens, onlyListens, senderOf, Ranked, Still, bestIn, Near, inboxBy, Deaf, clearing, Listed, Numbers, Sends, Lists, Turns, Runs, TicksAt, TicksAll, Loud, mostBytes, HeardAlso, Hearers, clamped};
 ghost use Rattle.group.specs.Table.{most};
 
 // The lines of an event, written or only counted.
@@ -290,30 +291,77 @@ fn next_sender(
     requires { ⌜ Listed (now near) m ⌝ }
     ensures { λ r. ⌜ r ≡ bestIn (now (ranks .entry)) last most (take m (now (near .entry))) ⌝ }
 {
-    let mut best: usize = Table::SERVERS;
+    let under = places::rank_under(ranks, last);
+    let mut best = Best::none();
     let mut k: usize = 0;
     while k < m {
-        best = places::better(ranks, last, best, near[k]);
+        let i = near[k];
+        let next = best.or(under, ranks[i], i);
+        best = next;
         k += 1;
     }
-    best
+    best.place
 }
 
-// A prospect stays one whatever it hears of a sender of this rank, and of those below it.
+// A prospect that has sent in this frame stays as it is, whatever it hears of a sender of this
+// rank, and of those below it.
 fn stays(s: Server, rank: u32) -> bool
     ensures { λ r. ⌜ (r ≡ staysUnder s rank) × (s .identity < 65536) ⌝ }
 {
     let role = s.role;
-    places::is_prospect(role) & (rank <= places::rank_number(s))
+    places::is_prospect(role) & (s.sent_any() & (rank <= places::rank_number(s)))
 }
 
-// A backup only listens to a higher sender that passes to nobody.
+// A sender of this rank is over that of its hearer, sent something, and passed to nobody.
+fn higher_beats(own: u32, rank: u32, sending: u32) -> bool
+    ensures { λ r. ⌜ r ≡ higherBeats own rank sending ⌝ }
+{
+    (rank > own) & ((sending != 0) & (sending % places::REVEAL == 0))
+}
+
+// A backup only listens to such a sender.
 fn heeds(s: Server, rank: u32, sending: u32) -> bool
     ensures { λ r. ⌜ (r ≡ heedsOnly s rank sending) × (s .identity < 65536) ⌝ }
 {
     let role = s.role;
-    places::is_backup(role)
-        & ((rank > places::rank_number(s)) & ((sending != 0) & (sending % places::REVEAL == 0)))
+    places::is_backup(role) & higher_beats(places::rank_number(s), rank, sending)
+}
+
+// Whether the first m places near are all such senders, for a hearer of this rank.
+fn only_higher(
+    near: &[usize; Table::SERVERS],
+    ranks: &[u32; Table::SERVERS],
+    sendings: &[u32; Table::SERVERS],
+    m: usize,
+    own: u32,
+) -> bool
+    requires { ⌜ Listed (now near) m ⌝ }
+    ensures { λ r. ⌜ r ≡ every (higherAt (now (ranks .entry)) (now (sendings .entry)) own) (take m (now (near .entry))) ⌝ }
+{
+    let mut k: usize = 0;
+    while k < m {
+        let i = near[k];
+        if !higher_beats(own, ranks[i], sendings[i]) {
+            return false;
+        }
+        k += 1;
+    }
+    true
+}
+
+// A backup of this rank that has heard in this frame, where all that it hears are such senders.
+fn has_listened(s: Server, frame: u32, own: u32, only: bool) -> bool
+    ensures { λ r. ⌜ r ≡ hasListened s frame own only ⌝ }
+{
+    let role = s.role;
+    only & (places::is_backup(role) & ((s.silence == frame) & (places::rank_number(s) == own)))
+}
+
+// Whether nothing that is left to hear, from a sender of this rank on, changes the server.
+fn heard_enough(s: Server, rank: u32, frame: u32, own: u32, only: bool) -> bool
+    ensures { λ r. ⌜ (r ≡ (staysUnder s rank || hasListened s frame own only)) × (s .identity < 65536) ⌝ }
+{
+    stays(s, rank) | has_listened(s, frame, own, only)
 }
 
 fn attend(s: Server, frame: u32) -> Server
@@ -365,6 +413,8 @@ fn hear_several(
 {
     let mut near: [usize; Table::SERVERS] = [0; Table::SERVERS];
     let m = list_heard(listed, whole, &mut near, count, j);
+    let own = places::rank_number(s);
+    let only = only_higher(&near, ranks, sendings, m, own);
     let mut now = s;
     let mut r = at;
     let mut last: usize = Table::SERVERS;
@@ -374,7 +424,7 @@ fn hear_several(
         if i >= Table::SERVERS {
             return Told { server: now, at: r };
         }
-        if stays(now, ranks[i]) {
+        if heard_enough(now, ranks[i], frame, own, only) {
             return Told { server: now, at: r };
         }
         let t = hear_from(now, frame, ranks[i], sendings[i], out, wet, r);

@@ -1,5 +1,5 @@
 -- The laws of specs/Anew.antt. Assumes nothing.
-use mathlib.Core.Bool.{Bool, true, false, _||_}
+use mathlib.Core.Bool.{Bool, true, false, not, _&&_, _||_}
 use mathlib.Core.Path.{_≡_, refl, sym, ap, ap₂, _∙_}
 use mathlib.Core.List.{List, [], _∷_, _++_, map}
 use Prim.Native.Nat.{ℕ, _+_, _<_}
@@ -8,7 +8,7 @@ use borrow.Author.Tests.{ltb-true, lt-ltb}
 use lib.Dec.{eqb}
 use lib.ListN.{length}
 use Rattle.lists.specs.Choice.{choose}
-use Rattle.lists.proofs.Cases.{clash, chosen, by-choice}
+use Rattle.lists.proofs.Cases.{and-true, clash, chosen, by-choice}
 use Rattle.refusal.specs.Answer.{accepted, refused, ofVerdict}
 use Rattle.timecode.specs.Label.{dayLength}
 use Rattle.heartbeat.specs.declared.Heartbeat.{Heartbeat}
@@ -16,7 +16,7 @@ use Rattle.periods.specs.declared.Period.{Period}
 use Rattle.roles.specs.declared.Role.{Role}
 use Rattle.roles.specs.declared.Role.the-variants.{Down, Idle, Sync, Backup, Prospect, Primary}
 use Rattle.roles.specs.declared.Event.{Event}
-use Rattle.roles.specs.declared.Event.the-variants.{Nothing, ToIdle}
+use Rattle.roles.specs.declared.Event.the-variants.{Nothing, ToBackup, ToProspectBeat, ToProspectReveal, Lower, LowerBeat, Beat, ToPrimary, ToIdle}
 use Rattle.roles.specs.declared.Verb.{Verb}
 use Rattle.roles.specs.declared.Verb.the-variants.{Start, Ready, Unready, Pass, Crash, Restart, Cut, Mend}
 use Rattle.roles.specs.Roles.{inRoleOf, isActive, isBeating}
@@ -24,10 +24,11 @@ use Rattle.roles.specs.Verbs.{enters, entering, verbEvent, verbHappens}
 use Rattle.server.specs.declared.Server.{Server}
 use Rattle.server.specs.declared.Heard.{Heard}
 use Rattle.server.specs.declared.Timed.{Timed}
-use Rattle.server.specs.Server.{inRole, cleared, after}
-use Rattle.server.specs.Hearing.{forThis, backupHears, prospectHears, primaryHears, hears, attending, heard}
+use Rattle.server.specs.Server.{inRole, setBeat, toProspect, sendBeat, beatNow, sendReveal, cleared, sentAny, after}
+use Rattle.server.specs.Hearing.{fromHigher, fromLower, forThis, lowerReveals, backupHears, replies, prospectHears, primaryHears, hears, attending, heard}
 use Rattle.server.specs.Timers.{silent, beating, rising, afterSilent, afterBeating, afterRising, timed}
 use Rattle.server.specs.Verbs.{verbAnswer}
+use Rattle.server.proofs.Sent.{reveal-any, beat-any}
 use Rattle.front.specs.declared.Front.{Front}
 use Rattle.front.specs.Front.{fresh, withServer, goesOn, risen, happens}
 use Rattle.front.specs.Anew.{Step, begin, hear, tick, act, ofBegin, ofHear, ofTick, ofAct, stepped, answered, moved, answers, byBegin, byHear, byTick, byAct, CallsAreSteps, frames, nothing, InactiveWaits, LateIsFresh, RenewedGoesOn}
@@ -125,9 +126,9 @@ abbrev held : Bool → ℕ → ℕ
 held true n = n
 held false n = 0
 
--- its timers in the role that has them, and nothing that it sent
-unfoldable pub seen : Server → Server
-seen s =
+-- its timers in the role that has them; of what it sent, only whether it did
+abbrev seenAs : Bool → Server → Server
+seenAs sent s =
     record {
       identity = s .identity;
       priority = s .priority;
@@ -136,9 +137,13 @@ seen s =
       beat = held (isBeating (s .role)) (s .beat);
       prospect = held (inRoleOf (s .role) Prospect) (s .prospect);
       beats = 0;
-      reveal = false;
+      reveal = sent;
       pass = 0;
     }
+
+-- and that only of a prospect or primary, since no other replies
+unfoldable pub seen : Server → Server
+seen s = seenAs (isBeating (s .role) && sentAny s) s
 
 -- E looks at nothing else
 Looks : {A : Type 0} → (Server → A) → Type 0
@@ -149,14 +154,30 @@ look-on : {A : Type 0} (F : Server → Server) (E : Server → A) → Looks (λ 
 unfolding Looks
 look-on F E f e s = sym (e (F (seen s))) ∙ ap E (f s) ∙ e (F s)
 
+-- whether it sent is seen
+sent-seen : (b : Bool) (s : Server) → sentAny (seenAs b s) ≡ b
+unfolding sentAny choose
+sent-seen true s = refl
+sent-seen false s = refl
+
 seen-twice : (r : Role) (s : Server) → seen (seen (inRole r s)) ≡ seen (inRole r s)
 unfolding seen isBeating
 seen-twice Down s = refl
 seen-twice Idle s = refl
 seen-twice Sync s = refl
 seen-twice Backup s = refl
-seen-twice Prospect s = refl
-seen-twice Primary s = refl
+seen-twice Prospect s = ap (λ (b : Bool). seenAs b (inRole Prospect s)) (sent-seen _ (inRole Prospect s))
+seen-twice Primary s = ap (λ (b : Bool). seenAs b (inRole Primary s)) (sent-seen _ (inRole Primary s))
+
+-- nothing is sent in a new frame
+seen-cleared : (r : Role) (s : Server) → seen (cleared (seen (inRole r s))) ≡ seen (cleared (inRole r s))
+unfolding seen isBeating sentAny choose
+seen-cleared Down s = refl
+seen-cleared Idle s = refl
+seen-cleared Sync s = refl
+seen-cleared Backup s = refl
+seen-cleared Prospect s = refl
+seen-cleared Primary s = refl
 
 -- an event makes the same of two servers, as far as it is looked at
 record Same (t : ℕ) (s s′ : Server) (e : Event) : Type 0 where
@@ -165,18 +186,64 @@ record Same (t : ℕ) (s s′ : Server) (e : Event) : Type 0 where
 either : {t : ℕ} {s s′ : Server} {a b : Event} (d : Bool) → Same t s s′ a → Same t s s′ b → Same t s s′ (choose d a b)
 either {t} {s} {s′} d x y = by-choice (Same t s s′) d (λ _. x) (λ _. y)
 
+-- nothing happens
+
+nothing-same : (t : ℕ) (s : Server) → Same t (seen s) s Nothing
+unfolding after
+nothing-same t s = record { same = seen-twice (s .role) s }
+
+lower-same : (t : ℕ) (s : Server) → Same t (seen s) s Lower
+unfolding after
+lower-same t s = record { same = seen-twice (s .role) s }
+
+-- two that beat and have sent
+both-sent : (x y : Server) → isBeating (x .role) ≡ true → isBeating (y .role) ≡ true → sentAny x ≡ true → sentAny y ≡ true → seenAs true x ≡ seenAs true y → seen x ≡ seen y
+unfolding seen
+both-sent x y b d m n e = ap (λ (k : Bool). seenAs k x) (and-true b m) ∙ e ∙ sym (ap (λ (k : Bool). seenAs k y) (and-true d n))
+
+raised-beat : (t : ℕ) (x y : Server) → seenAs true (toProspect t x) ≡ seenAs true (toProspect t y) → Same t x y ToProspectBeat
+unfolding after isBeating
+raised-beat t x y e =
+    record { same = both-sent (sendBeat (toProspect t x)) (sendBeat (toProspect t y)) refl refl (beat-any (toProspect t x)) (beat-any (toProspect t y)) e }
+
+raised-reveal : (t : ℕ) (x y : Server) → seenAs true (toProspect t x) ≡ seenAs true (toProspect t y) → Same t x y ToProspectReveal
+unfolding after isBeating
+raised-reveal t x y e =
+    let a = sendReveal (toProspect t x) in
+    let b = sendReveal (toProspect t y) in
+    record { same = both-sent a b refl refl (reveal-any a refl) (reveal-any b refl) e }
+
+beats-same : (t : ℕ) (x y : Server) → isBeating (x .role) ≡ true → isBeating (y .role) ≡ true → seenAs true (setBeat t x) ≡ seenAs true (setBeat t y) →
+    Same t x y Beat × Same t x y LowerBeat
+unfolding after
+beats-same t x y b d e =
+    let q = both-sent (beatNow t x) (beatNow t y) b d (beat-any (setBeat t x)) (beat-any (setBeat t y)) e in
+    (record { same = q }, record { same = q })
+
+primary-same : (t : ℕ) (s : Server) → Same t (seen (inRole Prospect s)) (inRole Prospect s) ToPrimary
+unfolding seen after isBeating sentAny
+primary-same t s = record { same = ap (λ (b : Bool). seenAs b (inRole Primary s)) (sent-seen _ (inRole Prospect s)) }
+
 -- hearing
 
 hear-looks : (t : ℕ) (h : Heartbeat) (r : Role) (s : Server) →
     let k = inRole r s in
     (hears (seen k) h ≡ hears k h) × Same t (attending t r (seen k)) (attending t r k) (hears k h)
-unfolding seen after isBeating forThis backupHears prospectHears primaryHears
+unfolding seen after isBeating forThis backupHears replies prospectHears primaryHears
 hear-looks t h Down s = (refl, record { same = refl })
 hear-looks t h Idle s = (refl, record { same = refl })
 hear-looks t h Sync s = (refl, record { same = refl })
-hear-looks t h Backup s = (refl, either _ (record { same = refl }) (either _ (record { same = refl }) (record { same = refl })))
-hear-looks t h Prospect s = (refl, either _ (record { same = refl }) (record { same = refl }))
-hear-looks t h Primary s = (refl, either _ (record { same = refl }) (either _ (record { same = refl }) (record { same = refl })))
+hear-looks t h Backup s = (refl, either _ (raised-beat t _ _ refl) (either _ (raised-reveal t _ _ refl) (record { same = refl })))
+hear-looks t h Prospect s =
+    let k = inRole Prospect s in (
+      ap (λ (b : Bool). choose (fromHigher k h) ToBackup (choose (lowerReveals k h && not b) Beat Nothing)) (sent-seen _ k),
+      either _ (record { same = refl }) (either _ (beats-same t (seen k) k refl refl refl .0) (nothing-same t k)),
+    )
+hear-looks t h Primary s =
+    let k = inRole Primary s in (
+      ap (λ (b : Bool). choose (fromHigher k h) ToBackup (choose (lowerReveals k h && not b) LowerBeat (choose (fromLower k h) Lower Nothing))) (sent-seen _ k),
+      either _ (record { same = refl }) (either _ (beats-same t (seen k) k refl refl refl .1) (either _ (lower-same t k) (nothing-same t k))),
+    )
 
 heard-looks : (t : ℕ) (h : Heartbeat) → Looks (λ s. seen (heard t s h .server))
 unfolding Looks seen
@@ -194,9 +261,9 @@ unfolding Sees seen after isBeating
 silent-sees t p Down s = (refl, record { same = refl })
 silent-sees t p Idle s = (refl, record { same = refl })
 silent-sees t p Sync s = (refl, record { same = refl })
-silent-sees t p Backup s = (refl, either _ (record { same = refl }) (record { same = refl }))
-silent-sees t p Prospect s = (refl, record { same = refl })
-silent-sees t p Primary s = (refl, record { same = refl })
+silent-sees t p Backup s = (refl, either _ (raised-reveal t _ _ refl) (record { same = refl }))
+silent-sees t p Prospect s = (refl, nothing-same t (inRole Prospect s))
+silent-sees t p Primary s = (refl, nothing-same t (inRole Primary s))
 
 beating-sees : (t : ℕ) (p : Period) (r : Role) (s : Server) → Sees t (beating t p) (inRole r s)
 unfolding Sees seen after isBeating
@@ -204,8 +271,12 @@ beating-sees t p Down s = (refl, record { same = refl })
 beating-sees t p Idle s = (refl, record { same = refl })
 beating-sees t p Sync s = (refl, record { same = refl })
 beating-sees t p Backup s = (refl, record { same = refl })
-beating-sees t p Prospect s = (refl, either _ (record { same = refl }) (record { same = refl }))
-beating-sees t p Primary s = (refl, either _ (record { same = refl }) (record { same = refl }))
+beating-sees t p Prospect s =
+    let k = inRole Prospect s in
+    (refl, either _ (beats-same t (seen k) k refl refl refl .0) (nothing-same t k))
+beating-sees t p Primary s =
+    let k = inRole Primary s in
+    (refl, either _ (beats-same t (seen k) k refl refl refl .0) (nothing-same t k))
 
 rising-sees : (t : ℕ) (p : Period) (r : Role) (s : Server) → Sees t (rising t p) (inRole r s)
 unfolding Sees seen after isBeating
@@ -213,14 +284,10 @@ rising-sees t p Down s = (refl, record { same = refl })
 rising-sees t p Idle s = (refl, record { same = refl })
 rising-sees t p Sync s = (refl, record { same = refl })
 rising-sees t p Backup s = (refl, record { same = refl })
-rising-sees t p Prospect s = (refl, either _ (record { same = refl }) (record { same = refl }))
-rising-sees t p Primary s = (refl, record { same = refl })
+rising-sees t p Prospect s = (refl, either _ (primary-same t s) (nothing-same t (inRole Prospect s)))
+rising-sees t p Primary s = (refl, nothing-same t (inRole Primary s))
 
 -- verbs
-
-nothing-same : (t : ℕ) (s : Server) → Same t (seen s) s Nothing
-unfolding after
-nothing-same t s = record { same = seen-twice (s .role) s }
 
 entering-same : (t : ℕ) (s : Server) (k : ℕ) → Same t (seen s) s (entering k)
 unfolding seen after isBeating entering
@@ -269,7 +336,7 @@ seenFront f = withServer (seen (f .server)) f
 
 begun-looks : (d : Bool) (f : Front) → seenFront (choose d (risen (seenFront f)) (seenFront f)) ≡ seenFront (choose d (risen f) f)
 unfolding choose seen
-begun-looks true f = ap (λ (s : Server). withServer s (risen f)) (seen-twice (f .server .role) (f .server))
+begun-looks true f = ap (λ (s : Server). withServer s (risen f)) (seen-cleared (f .server .role) (f .server))
 begun-looks false f = ap (λ (s : Server). withServer s f) (seen-twice (f .server .role) (f .server))
 
 stepped-looks : (f : Front) (x : Step) → seenFront (stepped (seenFront f) x) ≡ seenFront (stepped f x)

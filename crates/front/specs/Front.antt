@@ -59,8 +59,9 @@ takeFront i p n = choose (not (eqb i 0) && (leb leastPeriod n && leb n greatestP
 -- each frame, as a thin front over the step above."
 -- Of each: the front f before it, its answer r, and the front f′ after it. Left free: the order of
 -- the steps, which is the caller's. A frame of document 01 is `begin`, a `hear` for each heartbeat,
--- `tick`, then verbs. An event that is answered says what to send: `ToProspectBeat` and `Beat` "a
--- plain beat", `ToProspectReveal` "a reveal", `Passed b` "a heartbeat with BS = b"; others nothing
+-- `tick`, then verbs. An event that is answered says what to send: `ToProspectBeat`, `Beat` and
+-- `LowerBeat` "a plain beat", `ToProspectReveal` "a reveal", `Passed b` "a heartbeat with BS = b";
+-- others nothing
 
 abbrev pub withServer : Server → Front → Front
 withServer s f = record { server = s; frame = f .frame; period = f .period }

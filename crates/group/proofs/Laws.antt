@@ -1,7 +1,7 @@
 -- Laws of every call. Assumes nothing.
 use mathlib.Core.Bool.{Bool, true, false, not}
 use mathlib.Core.Path.{_≡_, refl, sym, ap, ap₂, subst, _∙_}
-use mathlib.Core.Logic.{⊎-elim, _≢_}
+use mathlib.Core.Logic.{⊎-elim, _≢_, inl, inr}
 use mathlib.Core.List.{List, [], _∷_, _++_}
 use Prim.Native.Nat.{ℕ, zero, suc, _+_, _-_, _≤_, _<_}
 use native.Mathlib.Nat.{zero-add}
@@ -12,21 +12,28 @@ use lib.ListN.{length, drop, getD, set, replicate, length-append, length-set, le
 use lib.Seq.{getD-set-same, getD-set-other}
 use Rattle.lists.specs.Choice.{choose}
 use Rattle.lists.specs.Lists.{mapFrom}
-use Rattle.lists.proofs.Cases.{tested, less, equal, on, chosen, other, and-left, and-right}
+use Rattle.lists.proofs.Cases.{clash, tested, less, equal, on, chosen, other, and-true, and-left, and-right, snd-true}
 use Rattle.heartbeat.specs.declared.Heartbeat.{Heartbeat}
+use Rattle.heartbeat.specs.Heartbeat.{sender, isSet}
+use Rattle.heartbeat.proofs.Order.{asymmetric}
 use Rattle.timecode.specs.Label.{dayLength}
 use Rattle.timecode.specs.Read.{inDay}
 use Rattle.roles.specs.declared.Role.{Role}
 use Rattle.roles.specs.declared.Role.the-variants.{Down, Idle, Sync, Backup, Prospect, Primary}
 use Rattle.roles.specs.declared.Event.{Event}
-use Rattle.roles.specs.declared.Event.the-variants.{Nothing, ToBackup, ToProspectBeat, ToProspectReveal, Lower, Beat, ToPrimary, ToSync, ToIdle, ToDown, Passed}
+use Rattle.roles.specs.declared.Event.the-variants.{Nothing, ToBackup, ToProspectBeat, ToProspectReveal, Lower, LowerBeat, Beat, ToPrimary, ToSync, ToIdle, ToDown, Passed}
 use Rattle.roles.specs.declared.Verb.{Verb}
 use Rattle.roles.specs.declared.Verb.the-variants.{Start, Ready, Unready, Pass, Crash, Restart, Cut, Mend}
 use Rattle.periods.specs.declared.Period.{Period}
 use Rattle.server.specs.declared.Server.{Server}
-use Rattle.server.specs.Server.{absent, rankOf, cleared, sentAny, after}
-use Rattle.server.specs.Hearing.{hearsIn, attending, heard, heardAll}
+use Rattle.server.specs.Server.{absent, rankOf, setBeat, cleared, sentAny, after}
+use Rattle.server.specs.Hearing.{fromHigher, fromLower, replies, prospectHears, primaryHears, hearsIn, attending, heard, heardAll}
+use Rattle.roles.specs.Words.{said}
+use Rattle.roles.specs.Roles.{isBeating}
+use Rattle.group.specs.Laws.{replySaid}
 use Rattle.server.specs.Timers.{silent, beating, rising, afterSilent, afterBeating, afterRising, timed}
+use Rattle.server.proofs.Sent.{beat-any}
+use Rattle.server.proofs.Hearing.{sent-no-reply, reply-as, unasked-as, sent-heard}
 use Rattle.group.specs.declared.State.{State}
 use Rattle.group.specs.Outcome.{Outcome, numberIn, channelIn, writtenIn, sliceIn}
 use Rattle.group.specs.Table.{most}
@@ -36,7 +43,7 @@ use Rattle.group.specs.Verbs.{placeOf, happens, linksAfter, did}
 use Rattle.group.specs.Advance.{stepOutcome, advancedBy, linesBy, timeRefusal, fitting, framesWithin, withinOutcome}
 use Rattle.group.specs.Links.{cutByVerb}
 use Rattle.group.specs.Calls.{Call, verb, advance, advanceTo, outcomeOf, sliceOf, callNumber, callChannel, callSlice, channelAfter, numbersOf}
-use Rattle.group.specs.Laws.{callLines, RefusedChangesNothing, AcceptedWritesItsLines, KeepsItsTable, EveryCallKeepsTheTable, frameThen, FramesCounted, OthersStay, OtherLinksStay, ItsLinkIsAsCut, NothingSentNothingHeard, ListsJoin, linesAfter, AsManyAdvances, AreAdvances, WithinIsAdvances, OneMoreDoesNotFit, Laws}
+use Rattle.group.specs.Laws.{callLines, RefusedChangesNothing, AcceptedWritesItsLines, KeepsItsTable, EveryCallKeepsTheTable, frameThen, FramesCounted, OthersStay, OtherLinksStay, ItsLinkIsAsCut, NothingSentNothingHeard, RevealsGetReplies, NothingElseGetsOne, ListsJoin, linesAfter, AsManyAdvances, AreAdvances, WithinIsAdvances, OneMoreDoesNotFit, Laws}
 use Rattle.group.proofs.Answering.{is-long}
 use Rattle.group.proofs.Places.{frame-after}
 use Rattle.group.proofs.Made.{tables-in-order, fresh-has-its-table}
@@ -142,6 +149,7 @@ rank-after t s ToBackup = refl
 rank-after t s ToProspectBeat = refl
 rank-after t s ToProspectReveal = refl
 rank-after t s Lower = refl
+rank-after t s LowerBeat = refl
 rank-after t s Beat = refl
 rank-after t s ToPrimary = refl
 rank-after t s ToSync = refl
@@ -370,6 +378,29 @@ one-more (suc n) c room h =
 pub one-more-does-not-fit : OneMoreDoesNotFit
 one-more-does-not-fit c t room h = one-more (t - c .frame) c room h
 
+-- ---- replies
+
+reply-said : (s : Server) (h : Heartbeat) (r : Role) → isBeating r ≡ true → fromHigher s h ≡ false → replies s h ≡ true → said (hearsIn r s h) ≡ replySaid r
+unfolding isBeating prospectHears primaryHears
+reply-said s h Down b u y = absurd (clash b refl)
+reply-said s h Idle b u y = absurd (clash b refl)
+reply-said s h Sync b u y = absurd (clash b refl)
+reply-said s h Backup b u y = absurd (clash b refl)
+reply-said s h Prospect b u y = ap said (other _ u ∙ chosen _ y)
+reply-said s h Primary b u y = ap said (other _ u ∙ chosen _ y)
+
+pub reveals-get-replies : RevealsGetReplies
+unfolding replies
+reveals-get-replies t s h b l n =
+    let no = asymmetric (rankOf s) (sender h) (snd-true (isSet (h .reveal)) (fromLower s h) l) in
+    let e = reply-as t s h (s .role) b no (and-true l (ap not n)) in
+    record { beat = e; says = reply-said s h (s .role) b no (and-true l (ap not n)); once = λ hs k. sent-no-reply _ k (sent-heard t (heard t s h .server) hs (ap sentAny e ∙ beat-any (setBeat t s))) }
+
+pub nothing-else-gets-one : NothingElseGetsOne
+unfolding replies
+nothing-else-gets-one t s h b (inl l) = unasked-as t s h (s .role) b (and-left _ l)
+nothing-else-gets-one t s h b (inr n) = unasked-as t s h (s .role) b (sent-no-reply s h n)
+
 -- ---- all of them
 
 pub laws : Laws
@@ -380,6 +411,8 @@ laws =
       opening = fresh-has-its-table;
       order = all-hear-in-order;
       silence = nothing-sent-nothing-heard;
+      replies = reveals-get-replies;
+      unasked = nothing-else-gets-one;
       refused = refused-changes-nothing;
       accepted = accepted-writes-its-lines;
       table = every-call-keeps-the-table;

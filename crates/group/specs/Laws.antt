@@ -3,16 +3,25 @@
 -- of proofs/Laws.antt.
 use mathlib.Core.Bool.{true, false, not}
 use mathlib.Core.Path.{_≡_}
-use mathlib.Core.Logic.{_≢_}
+use mathlib.Core.Logic.{_≢_, _⊎_}
 use mathlib.Core.List.{List, [], _∷_, _++_, List·Memᴰ}
 use Prim.Native.Nat.{ℕ, suc, _+_, _-_, _≤_, _<_}
 use lib.Dec.{eqb}
 use lib.ListN.{length, drop, replicate, getD}
 use Rattle.lists.specs.Choice.{choose}
 use Rattle.heartbeat.specs.declared.Rank.{Rank}
+use Rattle.heartbeat.specs.declared.Heartbeat.{Heartbeat}
 use Rattle.roles.specs.declared.Verb.{Verb}
+use Rattle.roles.specs.Roles.{isBeating}
+use Rattle.roles.specs.declared.Role.{Role}
+use Rattle.roles.specs.declared.Role.the-variants.{Down, Idle, Sync, Backup, Prospect, Primary}
+use Rattle.roles.specs.declared.Word.the-variants as word
+use Rattle.roles.specs.declared.Said.{Said}
+use Rattle.roles.specs.declared.Said.the-variants as says
+use Rattle.roles.specs.Words.{said}
 use Rattle.server.specs.declared.Server.{Server}
-use Rattle.server.specs.Server.{absent, rankOf, cleared, sentAny}
+use Rattle.server.specs.Server.{absent, rankOf, beatNow, cleared, sentBy, sentAny}
+use Rattle.server.specs.Hearing.{lowerReveals, replies, heard, heardAll}
 use Rattle.group.specs.declared.Table.{Table}
 use Rattle.group.specs.declared.State.{State}
 use Rattle.group.specs.Outcome.{writtenIn}
@@ -84,6 +93,32 @@ AllHearInOrder = (c : State) → SendersDiffer c → (j : ℕ) → HearsInOrder 
 abbrev pub NothingSentNothingHeard : Type 0
 NothingSentNothingHeard =
     (c : State) → ((i : ℕ) → i < most → sentAny (place c i) ≡ false) → (t j : ℕ) (s : Server) → hearing c t j s ≡ cleared s
+
+-- "the reply follows any `lower` note of the same heartbeat", which only a primary makes
+abbrev pub replySaid : Role → Said
+replySaid Down = says.Nothing
+replySaid Idle = says.Nothing
+replySaid Sync = says.Nothing
+replySaid Backup = says.Nothing
+replySaid Prospect = says.One word.Beat
+replySaid Primary = says.Two word.Lower word.Beat
+
+-- "sends a plain beat in that frame, once only .. its beat age becomes 0" (document 02, A.2): that
+-- is all that becomes of the server, and nothing that it hears after it in the frame gets a reply
+pub record Replied (t : ℕ) (s : Server) (h : Heartbeat) : Type 0 where
+  pub beat : heard t s h .server ≡ beatNow t s
+  pub says : said (heard t s h .event) ≡ replySaid (s .role)
+  pub once : (hs : List Heartbeat) (k : Heartbeat) → replies (heardAll t (heard t s h .server) hs) k ≡ false
+
+-- so it is with "a prospect or primary that hears a reveal from a lower sender .. and not if it has
+-- already sent in that frame"
+abbrev pub RevealsGetReplies : Type 0
+RevealsGetReplies = (t : ℕ) (s : Server) (h : Heartbeat) → isBeating (s .role) ≡ true → lowerReveals s h ≡ true → sentAny s ≡ false → Replied t s h
+
+-- and else it sends nothing for what it hears
+abbrev pub NothingElseGetsOne : Type 0
+NothingElseGetsOne =
+    (t : ℕ) (s : Server) (h : Heartbeat) → isBeating (s .role) ≡ true → (lowerReveals s h ≡ false) ⊎ (sentAny s ≡ true) → sentBy (heard t s h .server) ≡ sentBy s
 
 -- ---- one call
 
@@ -204,6 +239,8 @@ pub record Laws : Type 0 where
   pub opening : FreshHasItsTable
   pub order : AllHearInOrder
   pub silence : NothingSentNothingHeard
+  pub replies : RevealsGetReplies
+  pub unasked : NothingElseGetsOne
   pub refused : RefusedChangesNothing
   pub accepted : AcceptedWritesItsLines
   pub table : EveryCallKeepsTheTable

@@ -2,11 +2,13 @@
 -- links.
 use mathlib.Core.Bool.{Bool, true, false, not, _&&_}
 use mathlib.Core.List.{List}
-use Prim.Native.Nat.{ℕ}
-use lib.Dec.{ltb, eqb}
+use Prim.Native.Nat.{ℕ, _+_}
+use lib.Dec.{ltb, leb, eqb}
 use lib.ListN.{getD}
 use Rattle.lists.specs.Choice.{choose}
+use Rattle.group.specs.Table.{most}
 use Rattle.group.specs.Hearing.{linkOf, isPlace}
+use Rattle.places.specs.declared.Best.{Best}
 
 -- place a is over place b
 abbrev pub overBy : List ℕ → ℕ → ℕ → Bool
@@ -26,6 +28,18 @@ heardBy w j i = not (eqb i j) && getD w (linkOf i j) false
 abbrev pub hearsAt : List Bool → ℕ → ℕ → Bool
 hearsAt w j i = choose (isPlace i && isPlace j) (heardBy w j i) false
 
--- of place i, if it is one, and the best so far, the one that comes sooner after the place last
-abbrev pub betterOf : List ℕ → ℕ → ℕ → ℕ → ℕ
-betterOf ranks last best i = choose (isPlace i) (choose (comesBy ranks true last best i) i best) best
+-- beyond all ranks
+abbrev pub rankEnd : ℕ
+rankEnd = 4294967296
+
+-- what the rank of a place is under if it comes after the place last
+abbrev pub rankUnder : List ℕ → ℕ → ℕ
+rankUnder ranks last = choose (isPlace last) (getD ranks last 0) rankEnd
+
+-- none so far
+abbrev pub noBest : Best
+noBest = record { place = most; least = 0 }
+
+-- of place i with the rank n, and the best so far, the one that comes sooner
+abbrev pub betterOf : ℕ → Best → ℕ → ℕ → Best
+betterOf under best n i = choose (ltb n under && leb (best .least) n) (record { place = i; least = n + 1 }) best

@@ -16,7 +16,7 @@ ghost use Rattle.roles.specs.Roles.{isActive};
 ghost use Rattle.places.specs.Roles.{isBackup, isProspect, isPrimary, isStill};
 ghost use Rattle.places.specs.Words.{roleOf, rankNumber, sendingNumber, serverOf, serversOf, Packs, Puts, packed};
 ghost use Rattle.places.specs.Steps.{Stores};
-ghost use Rattle.places.specs.Order.{overBy, comesBy, betterOf, hearsAt};
+ghost use Rattle.places.specs.Order.{hearsAt, rankEnd, rankUnder, noBest, betterOf};
 
 // ---- roles
 
@@ -281,49 +281,56 @@ pub fn hears(whole: &Links, i: usize, j: usize) -> bool
     }
 }
 
-// Place i comes after the place last; so it does where there is none (16 or more).
-fn under_last(ranks: &[u32; Table::SERVERS], last: usize, i: usize) -> bool
-    requires { ⌜ i < most ⌝ }
-    ensures { λ r. ⌜ r ≡ choose (isPlace last) (overBy (now (ranks .entry)) last i) Bool.true ⌝ }
+// The best so far of the places that come after the place last (16: none), and the least rank of a
+// place that comes before it.
+pub struct Best {
+    pub place: usize,
+    pub least: u64,
+}
+
+// Beyond all ranks.
+const RANKS: u64 = 4294967296;
+
+fn wide(n: u32) -> u64
+    ensures { λ r. ⌜ r ≡ n ⌝ }
+{
+    n as u64
+}
+
+// What the rank of a place is under if it comes after the place last: the rank of last; where there
+// is none (16 or more), a number beyond all ranks.
+pub fn rank_under(ranks: &[u32; Table::SERVERS], last: usize) -> u64
+    ensures { λ r. ⌜ r ≡ rankUnder (now (ranks .entry)) last ⌝ }
 {
     if last < Table::SERVERS {
-        ranks[last] > ranks[i]
+        wide(ranks[last])
     } else {
-        true
+        RANKS
     }
 }
 
-// Place i comes before the best so far; so it does where there is none (16 or more).
-fn over_best(ranks: &[u32; Table::SERVERS], best: usize, i: usize) -> bool
-    requires { ⌜ i < most ⌝ }
-    ensures { λ r. ⌜ r ≡ choose (isPlace best) (overBy (now (ranks .entry)) i best) Bool.true ⌝ }
-{
-    if best < Table::SERVERS {
-        ranks[i] > ranks[best]
-    } else {
-        true
+impl Best {
+    pub fn none() -> Best
+        ensures { λ r. ⌜ r ≡ noBest ⌝ }
+    {
+        Best {
+            place: Table::SERVERS,
+            least: 0,
+        }
     }
-}
 
-fn better_of(ranks: &[u32; Table::SERVERS], last: usize, best: usize, i: usize) -> usize
-    requires { ⌜ i < most ⌝ }
-    ensures { λ r. ⌜ r ≡ choose (comesBy (now (ranks .entry)) Bool.true last best i) i best ⌝ }
-{
-    if under_last(ranks, last, i) & over_best(ranks, best, i) {
-        i
-    } else {
-        best
-    }
-}
-
-// Of place i, which is heard, and the best so far: the one that is heard sooner after the place
-// last. Where i is no place (16 or more), the best so far.
-pub fn better(ranks: &[u32; Table::SERVERS], last: usize, best: usize, i: usize) -> usize
-    ensures { λ r. ⌜ r ≡ betterOf (now (ranks .entry)) last best i ⌝ }
-{
-    if i < Table::SERVERS {
-        better_of(ranks, last, best, i)
-    } else {
-        best
+    // Place i with this rank if it is heard sooner, else the best so far.
+    pub fn or(self, under: u64, rank: u32, i: usize) -> Best
+        ensures { λ r. ⌜ (r ≡ betterOf under self rank i) × (rank < rankEnd) ⌝ }
+    {
+        let n = wide(rank);
+        if (n < under) & (self.least <= n) {
+            Best {
+                place: i,
+                least: n + 1,
+            }
+        } else {
+            self
+        }
     }
 }

@@ -17,7 +17,7 @@ use Rattle.roles.specs.declared.Role.the-variants as roles
 use Rattle.roles.specs.declared.Verb.{Verb}
 use Rattle.roles.specs.declared.Verb.the-variants.{Start, Ready, Unready, Pass, Crash, Restart, Cut, Mend}
 use Rattle.roles.specs.declared.Event.{Event}
-use Rattle.roles.specs.declared.Event.the-variants.{Nothing, ToBackup, ToProspectBeat, ToProspectReveal, Lower, Beat, ToPrimary, ToSync, ToIdle, ToDown, Passed}
+use Rattle.roles.specs.declared.Event.the-variants.{Nothing, ToBackup, ToProspectBeat, ToProspectReveal, Lower, LowerBeat, Beat, ToPrimary, ToSync, ToIdle, ToDown, Passed}
 use Rattle.roles.specs.Roles.{roleNumber}
 use Rattle.roles.specs.Verbs.{verbNumber}
 use Rattle.places.specs.Words.{roleOf}
@@ -67,7 +67,7 @@ verb-faithful n e = let h : n ≤ 7 = leb-true n 7 e in computed isVerb (λ k. v
 
 pub event-faithful : (n to : ℕ) → isEvent n ≡ true → eventNumber (eventOf n to) ≡ n
 unfolding anyBelow choose eventOf
-event-faithful n to e = let h : n ≤ 10 = leb-true n 10 e in computed isEvent (λ k. eventNumber (eventOf k to)) 11 n refl (omega arith) e
+event-faithful n to e = let h : n ≤ 11 = leb-true n 11 e in computed isEvent (λ k. eventNumber (eventOf k to)) 12 n refl (omega arith) e
 
 pub refusal-faithful : (n : ℕ) → isRefusal n ≡ true → numberOf (refusalOf n) ≡ n
 unfolding anyBelow choose refusalOf
@@ -102,6 +102,7 @@ event-back ToBackup = record { decodes = refl; same = refl }
 event-back ToProspectBeat = record { decodes = refl; same = refl }
 event-back ToProspectReveal = record { decodes = refl; same = refl }
 event-back Lower = record { decodes = refl; same = refl }
+event-back LowerBeat = record { decodes = refl; same = refl }
 event-back Beat = record { decodes = refl; same = refl }
 event-back ToPrimary = record { decodes = refl; same = refl }
 event-back ToSync = record { decodes = refl; same = refl }

@@ -9,7 +9,7 @@ use Rattle.refusal.specs.declared.Refusal.the-variants.{Form, Number, Timecode,
 use Rattle.roles.specs.declared.Verb.{Verb}
 use Rattle.roles.specs.declared.Verb.the-variants.{Start, Ready, Unready, Pass, Crash, Restart, Cut, Mend}
 use Rattle.roles.specs.declared.Event.{Event}
-use Rattle.roles.specs.declared.Event.the-variants.{Nothing, ToBackup, ToProspectBeat, ToProspectReveal, Lower, Beat, ToPrimary, ToSync, ToIdle, ToDown, Passed}
+use Rattle.roles.specs.declared.Event.the-variants.{Nothing, ToBackup, ToProspectBeat, ToProspectReveal, Lower, LowerBeat, Beat, ToPrimary, ToSync, ToIdle, ToDown, Passed}
 use Rattle.periods.specs.declared.Period as period
 use Rattle.periods.specs.Period.{leastPeriod, greatestPeriod, shortest}
 
@@ -30,9 +30,9 @@ unfoldable pub verbOf : ℕ → Verb
 verbOf n =
     choose (eqb n 0) Start (choose (eqb n 1) Ready (choose (eqb n 2) Unready (choose (eqb n 3) Pass (choose (eqb n 4) Crash (choose (eqb n 5) Restart (choose (eqb n 6) Cut Mend))))))
 
--- events, 0 to 10; the identity passed to is a number by itself
+-- events, 0 to 11; the identity passed to is a number by itself
 abbrev pub isEvent : ℕ → Bool
-isEvent n = leb n 10
+isEvent n = leb n 11
 
 abbrev pub eventNumber : Event → ℕ
 eventNumber Nothing = 0
@@ -46,6 +46,7 @@ eventNumber ToSync = 7
 eventNumber ToIdle = 8
 eventNumber ToDown = 9
 eventNumber (Passed b) = 10
+eventNumber LowerBeat = 11
 
 -- the identity that an event passes to; 0 for all others
 abbrev pub eventTo : Event → ℕ
@@ -60,6 +61,7 @@ eventTo ToSync = 0
 eventTo ToIdle = 0
 eventTo ToDown = 0
 eventTo (Passed b) = b
+eventTo LowerBeat = 0
 
 unfoldable pub eventOf : ℕ → ℕ → Event
 eventOf n to =
@@ -67,7 +69,7 @@ eventOf n to =
     (choose (eqb n 1) ToBackup
     (choose (eqb n 2) ToProspectBeat
     (choose (eqb n 3) ToProspectReveal
-    (choose (eqb n 4) Lower (choose (eqb n 5) Beat (choose (eqb n 6) ToPrimary (choose (eqb n 7) ToSync (choose (eqb n 8) ToIdle (choose (eqb n 9) ToDown (Passed to))))))))))
+    (choose (eqb n 4) Lower (choose (eqb n 5) Beat (choose (eqb n 6) ToPrimary (choose (eqb n 7) ToSync (choose (eqb n 8) ToIdle (choose (eqb n 9) ToDown (choose (eqb n 10) (Passed to) LowerBeat))))))))))
 
 -- refusals, 1 to 9 and 11 to 16: the number is `numberOf` of the crate refusal
 abbrev pub isRefusal : ℕ → Bool

@@ -113,11 +113,11 @@ pub fn verb_of(n: u32) -> Verb
 pub fn is_event(n: u32) -> bool
     ensures { λ r. ⌜ r ≡ isEvent n ⌝ }
 {
-    n <= 10
+    n <= 11
 }
 
-// The event of a number; from 10 on, passed. `to` is the identity passed to, which no other event
-// has.
+// The event of a number; from 11 on, lower with a beat. `to` is the identity passed to, which no
+// event but 10 has.
 pub fn event_of(n: u32, to: u16) -> Event
     ensures { λ r. ⌜ r ≡ eventOf n to ⌝ }
 {
@@ -132,7 +132,8 @@ pub fn event_of(n: u32, to: u16) -> Event
         7 => Event::ToSync,
         8 => Event::ToIdle,
         9 => Event::ToDown,
-        _ => Event::Passed(to),
+        10 => Event::Passed(to),
+        _ => Event::LowerBeat,
     }
 }
 
@@ -152,6 +153,7 @@ pub fn event_number(event: Event) -> u32
         Event::ToIdle => 8,
         Event::ToDown => 9,
         Event::Passed(_) => 10,
+        Event::LowerBeat => 11,
     }
 }
 

@@ -16,7 +16,7 @@ use Rattle.heartbeat.specs.declared.Rank.{Rank}
 use Rattle.roles.specs.declared.Role.{Role}
 use Rattle.roles.specs.declared.Role.the-variants.{Down, Idle, Sync, Backup, Prospect, Primary}
 use Rattle.roles.specs.declared.Event.{Event}
-use Rattle.roles.specs.declared.Event.the-variants.{Nothing, ToBackup, ToProspectBeat, ToProspectReveal, Lower, Beat, ToPrimary, ToSync, ToIdle, ToDown, Passed}
+use Rattle.roles.specs.declared.Event.the-variants.{Nothing, ToBackup, ToProspectBeat, ToProspectReveal, Lower, LowerBeat, Beat, ToPrimary, ToSync, ToIdle, ToDown, Passed}
 use Rattle.roles.specs.declared.Verb.{Verb}
 use Rattle.roles.specs.declared.Verb.the-variants.{Start, Ready, Unready, Pass, Crash, Restart, Cut, Mend}
 use Rattle.roles.specs.Verbs.{entering, verbEvent, verbHappens, verbNumber}
@@ -74,6 +74,7 @@ sent-plain s ToBackup = refl
 sent-plain s ToProspectBeat = refl
 sent-plain s ToProspectReveal = refl
 sent-plain s Lower = refl
+sent-plain s LowerBeat = refl
 sent-plain s Beat = refl
 sent-plain s ToPrimary = refl
 sent-plain s ToSync = refl
@@ -107,6 +108,7 @@ lines-of ToBackup = refl
 lines-of ToProspectBeat = refl
 lines-of ToProspectReveal = refl
 lines-of Lower = refl
+lines-of LowerBeat = refl
 lines-of Beat = refl
 lines-of ToPrimary = refl
 lines-of ToSync = refl
@@ -130,10 +132,14 @@ hears-none Sync s h = record { passes = refl; sent = refl }
 hears-none Backup s h =
     by-choice (λ (e : Event). Told e 0) _ (λ x. record { passes = refl; sent = refl })
     (λ x. by-choice (λ (e : Event). Told e 0) _ (λ y. record { passes = refl; sent = refl }) (λ y. record { passes = refl; sent = refl }))
-hears-none Prospect s h = by-choice (λ (e : Event). Told e 0) _ (λ x. record { passes = refl; sent = refl }) (λ x. record { passes = refl; sent = refl })
-hears-none Primary s h =
+hears-none Prospect s h =
     by-choice (λ (e : Event). Told e 0) _ (λ x. record { passes = refl; sent = refl })
     (λ x. by-choice (λ (e : Event). Told e 0) _ (λ y. record { passes = refl; sent = refl }) (λ y. record { passes = refl; sent = refl }))
+hears-none Primary s h =
+    by-choice (λ (e : Event). Told e 0) _ (λ x. record { passes = refl; sent = refl })
+    (λ x.
+    by-choice (λ (e : Event). Told e 0) _ (λ y. record { passes = refl; sent = refl })
+    (λ y. by-choice (λ (e : Event). Told e 0) _ (λ z. record { passes = refl; sent = refl }) (λ z. record { passes = refl; sent = refl })))
 
 -- nothing, or the one event of a timer
 timer-none : (t : Bool) (e : Event) → Told e 0 → Told (choose t e Nothing) 0

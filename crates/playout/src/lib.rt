@@ -54,8 +54,8 @@ pub struct FrontMade {
 
 // What a heartbeat did. `number` is 0 where it is accepted, else the refusal's, and the rest is 0.
 // `event` is 0 nothing, 1 to backup, 2 to prospect with a beat, 3 to prospect with a reveal, 4
-// lower, 5 beat, 6 to primary, 7 to sync, 8 to idle, 9 to down, 10 passed. `role` is the role
-// afterwards.
+// lower, 5 beat, 6 to primary, 7 to sync, 8 to idle, 9 to down, 10 passed, 11 lower with a beat.
+// `role` is the role afterwards.
 #[repr(C)]
 pub struct FrontHeard {
     pub number: u32,
@@ -169,13 +169,13 @@ const ILL: u32 = 2;
 // ---- what it is
 
 // The version of the code.
-pub const VERSION: u32 = 1001;
+pub const VERSION: u32 = 2000;
 
-// The number of the rules that this library plays by: 1 for document 01, one more with every change
-// of the rules that a sheet can show. All servers of a group compare theirs before they play; those
-// whose numbers differ do not play together: half a group on each side of a change of rules gives
-// two sheets, and nobody notices. A program compares `PLAYOUT_RULES`, what it was compiled against,
-// with this, what it is linked with, at its start.
+// The number of the rules that this library plays by: 1 for document 01, 2 since a reveal gets a
+// reply, one more with every change of the rules that a sheet can show. All servers of a group
+// compare theirs before they play; those whose numbers differ do not play together: half a group on
+// each side of a change of rules gives two sheets, and nobody notices. A program compares
+// `PLAYOUT_RULES`, what it was compiled against, with this, what it is linked with, at its start.
 #[no_mangle]
 pub extern "C" fn playout_rules() -> u32
     ensures { λ r. ⌜ Rules r ⌝ }
@@ -490,6 +490,7 @@ fn sends_of(server: Server, event: Event) -> Sending
         Event::ToIdle => sends_none(),
         Event::ToDown => sends_none(),
         Event::Passed(to) => sends_pass(server, to),
+        Event::LowerBeat => sends_one(server.plain()),
     }
 }
 

@@ -24,10 +24,10 @@ use Rattle.group.proofs.Laws.{rank-one, rank-heard}
 use Rattle.roles.specs.Roles.{isActive, isBeating}
 use Rattle.traces.proofs.Ways as ways
 use Rattle.group.proofs.Inbox.{Falls}
-use Rattle.reached.proofs.Heard.{hear-as, stay-all, higher-no-call}
+use Rattle.reached.proofs.Heard.{hear-as, lower-all, higher-no-call}
 use Rattle.server.proofs.Hearing.{heard-append}
 use Rattle.reached.proofs.Ticks.{ticks-rest, ticks-wait, woken, ticks-wake, beaten, ticks-primary, ticks-prospect, ticks-ripe}
-use Rattle.reached.proofs.Young.{Due, Young, IsHearing, nothing, backs, beats, reveals, notes, hears-only}
+use Rattle.reached.proofs.Young.{Due, Young, IsHearing, nothing, backs, beats, reveals, notes, notes-replies, answers, hears-only}
 
 -- ---- after the timers of a frame, timers are young
 
@@ -130,6 +130,8 @@ pass-hearing t s backs = refl
 pass-hearing t s beats = refl
 pass-hearing t s reveals = refl
 pass-hearing t s notes = refl
+pass-hearing t s notes-replies = refl
+pass-hearing t s answers = refl
 
 pass-attending : (t : ℕ) (r : Role) (s : Server) → attending t r s .pass ≡ s .pass
 pass-attending t Down s = refl
@@ -153,6 +155,8 @@ active-hearing t s backs a = refl
 active-hearing t s beats a = refl
 active-hearing t s reveals a = refl
 active-hearing t s notes a = a
+active-hearing t s notes-replies a = a
+active-hearing t s answers a = a
 
 role-attending : (t : ℕ) (r : Role) (s : Server) → attending t r s .role ≡ s .role
 role-attending t Down s = refl
@@ -223,6 +227,8 @@ quiet-hearing t s backs f q = absurd (clash q f)
 quiet-hearing t s beats f q = refl
 quiet-hearing t s reveals f q = refl
 quiet-hearing t s notes f q = absurd (clash q f)
+quiet-hearing t s notes-replies f q = absurd (clash q f)
+quiet-hearing t s answers f q = absurd (clash q f)
 
 pub unrevealed : (s : Server) → RevealerBeats s → isBeating (s .role) ≡ false → s .reveal ≡ false
 unrevealed s r b = on (tested (s .reveal)) (λ e. absurd (clash (r e) b)) (λ e. e)
@@ -241,7 +247,7 @@ unfolding heardAll
 lower-beats t s [] l r = r
 lower-beats t s (h ∷ hs) l r =
     on (tested (isBeating (s .role)))
-    (λ b. let e = stay-all t s (h ∷ hs) b l in rw (sym e) at r)
+    (λ b. on (lower-all t s (h ∷ hs) b l) (λ e. subst RevealerBeats (sym e) r) (λ e. subst RevealerBeats (sym e) r))
     (λ b.
     lower-beats t (heard t s h .server) hs
     (same-rank s (heard t s h .server) hs (sym (rank-one t s h)) (snd-true (fromLower s h) (every (fromLower s) hs) l))

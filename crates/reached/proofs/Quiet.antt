@@ -1,7 +1,7 @@
 -- One server's frame in which BS is nobody's: facts F1 to F9. Assumes nothing.
 use mathlib.Core.Bool.{true, false}
-use mathlib.Core.Path.{_≡_, refl, ap, subst, _∙_}
-use mathlib.Core.Logic.{inl, inr}
+use mathlib.Core.Path.{_≡_, refl, sym, ap, subst, _∙_}
+use mathlib.Core.Logic.{_⊎_, inl, inr}
 use Prim.Native.Nat.{ℕ, suc, _+_, _-_, _<_, _≤_}
 use native.Mathlib.Omega.{arith}
 use borrow.Author.Tests.{eq-eqb, ne-eqb}
@@ -11,7 +11,7 @@ use Rattle.roles.specs.declared.Role.the-variants.{Backup, Prospect, Primary}
 use Rattle.periods.specs.declared.Period.{Period}
 use Rattle.server.specs.declared.Server.{Server}
 use Rattle.periods.specs.Period.{silenceLimit, prospectLimit, beatLimit}
-use Rattle.server.specs.Server.{inRole, setSilence, setBeat, sendBeat, cleared, oneMore, sentAny}
+use Rattle.server.specs.Server.{inRole, setSilence, setBeat, beatNow, cleared, sentAny}
 use Rattle.server.specs.Timers.{timed}
 use Rattle.group.specs.declared.State.{State}
 use Rattle.group.specs.Hearing.{place, inbox}
@@ -21,6 +21,7 @@ use Rattle.roles.specs.Roles.{isActive, isBeating}
 use Rattle.traces.specs.Trace.{HearsHigher, HearsLowReveal, HearsAny}
 use Rattle.traces.specs.Facts.{SilentBackup, RevealingProspect, Waited, BeatsOn, QuietStep}
 use Rattle.traces.proofs.Ways as ways
+use Rattle.server.proofs.Sent.{beat-any}
 use Rattle.group.proofs.Inbox.{Falls}
 use Rattle.reached.proofs.Heard.{backed, raised, attended, backup-raised, beater-stays, beater-backs, beater-raised}
 use Rattle.reached.proofs.Young.{Young}
@@ -73,29 +74,38 @@ module _ (c : State) (sound : Sound c) (links : AllWhole c) (k i : ℕ) (known :
   -- ---- a beater that hears no higher sender
 
   module _ (b : isBeating (s .role) ≡ true) (no-higher : ¬ HearsHigher (traceOf c) k i) where
-    still : heardAll t (cleared s) (inbox at i) ≡ cleared s
+    -- after hearing: as it was, or with a reply
+    abbrev m : Server
+    m = heardAll t (cleared s) (inbox at i)
+
+    still : (m ≡ cleared s) ⊎ (m ≡ beatNow t (cleared s))
     still =
         beater-stays t (cleared s) (inbox at i) (falls (ways.beating-active (s .role) b)) (unmarked-in c sound links k i known quiet)
         (no-higher-in c sound links k i known no-higher)
         b
 
-    stay-primary : s .role ≡ Primary → place (runs (suc k) c) i ≡ beaten p t (cleared s)
-    stay-primary e = via (cleared s) _ still (ticks-primary p t (cleared s) e)
+    -- what a reply leaves alone
+    kept : {A : Type 0} (f : Server → A) → f (beatNow t (cleared s)) ≡ f (cleared s) → f m ≡ f (cleared s)
+    kept f e = on still (λ q. ap f q) (λ q. ap f q ∙ e)
 
-    stay-prospect : s .role ≡ Prospect → (s .prospect + prospectLimit p ≡ t → ⊥) → place (runs (suc k) c) i ≡ beaten p t (cleared s)
-    stay-prospect e h = via (cleared s) _ still (ticks-prospect p t (cleared s) e h)
+    stay-primary : s .role ≡ Primary → place (runs (suc k) c) i ≡ beaten p t m
+    stay-primary e = via m _ refl (ticks-primary p t m (kept (λ x. x .role) refl ∙ e))
 
-    ripen : s .role ≡ Prospect → s .prospect + prospectLimit p ≡ t → place (runs (suc k) c) i ≡ inRole Primary (beaten p t (cleared s))
-    ripen e h = via (cleared s) _ still (ticks-ripe p t (cleared s) e h)
+    stay-prospect : s .role ≡ Prospect → (s .prospect + prospectLimit p ≡ t → ⊥) → place (runs (suc k) c) i ≡ beaten p t m
+    stay-prospect e h =
+        via m _ refl (ticks-prospect p t m (kept (λ x. x .role) refl ∙ e) (λ z. h (ap (λ (n : ℕ). n + prospectLimit p) (sym (kept (λ x. x .prospect) refl)) ∙ z)))
+
+    ripen : s .role ≡ Prospect → s .prospect + prospectLimit p ≡ t → place (runs (suc k) c) i ≡ inRole Primary (beaten p t m)
+    ripen e h = via m _ refl (ticks-ripe p t m (kept (λ x. x .role) refl ∙ e) (ap (λ (n : ℕ). n + prospectLimit p) (kept (λ x. x .prospect) refl) ∙ h))
 
     -- what both have in common
     beats-alike :
-        {A : Type 0} (f : Server → A) → ((x : Server) → f (inRole Primary x) ≡ f x) → f (place (runs (suc k) c) i) ≡ f (beaten p t (cleared s))
+        {A : Type 0} (f : Server → A) → ((x : Server) → f (inRole Primary x) ≡ f x) → f (place (runs (suc k) c) i) ≡ f (beaten p t m)
     beats-alike f alike =
         on (ways.beating (s .role) b)
         (λ e.
         on (equal (s .prospect + prospectLimit p) t)
-        (λ q. ap f (ripen e q) ∙ alike (beaten p t (cleared s)))
+        (λ q. ap f (ripen e q) ∙ alike (beaten p t m))
         (λ q. ap f (stay-prospect e q)))
         (λ e. ap f (stay-primary e))
 
@@ -103,26 +113,30 @@ module _ (c : State) (sound : Sound c) (links : AllWhole c) (k i : ℕ) (known :
     unfolding sentAny
     any-alike x = refl
 
-    beat-sent : sentAny (sendBeat (setBeat t (cleared s))) ≡ true
-    unfolding sentAny oneMore choose
-    beat-sent = refl
+    -- whoever is due to beat sends, and so does whoever replied
+    sends-due : (x : Server) → x .beat + beatLimit p ≡ t → sentAny (beaten p t x) ≡ true
+    sends-due x e = ap sentAny (chosen {a = beatNow t x} x (eq-eqb (x .beat + beatLimit p) t e)) ∙ beat-any (setBeat t x)
+
+    sends-replied : (x : Server) → sentAny (beaten p t (beatNow t x)) ≡ true
+    sends-replied x = ap sentAny (other {b = beatNow t x} (beatNow t (beatNow t x)) (ne-eqb (t + beatLimit p) t (λ z. omega (arith, some)))) ∙ beat-any (setBeat t x)
 
     on-beating : BeatsOn (traceOf c) k i
     on-beating =
         record {
-          no-reveal = beats-alike (λ x. x .reveal) (λ x. refl) ∙ beaten-keeps p t some (λ x. x .reveal) (cleared s) refl;
+          no-reveal = beats-alike (λ x. x .reveal) (λ x. refl) ∙ beaten-keeps p t some (λ x. x .reveal) m refl ∙ kept (λ x. x .reveal) refl;
           timer =
+              on still
+              (λ z.
               on (equal (s .beat + beatLimit p) t)
-              (λ e.
-              inl (beats-alike sentAny any-alike
-              ∙ ap sentAny (chosen {a = sendBeat (setBeat t (cleared s))} (cleared s) (eq-eqb (s .beat + beatLimit p) t e))
-              ∙ beat-sent))
+              (λ e. inl (beats-alike sentAny any-alike ∙ ap (λ (x : Server). sentAny (beaten p t x)) z ∙ sends-due (cleared s) e))
               (λ e.
               let q : place (runs (suc k) c) i .beat ≡ s .beat =
               beats-alike (λ x. x .beat) (λ x. refl)
-              ∙ ap (λ (x : Server). x .beat) (other {b = cleared s} (sendBeat (setBeat t (cleared s))) (ne-eqb (s .beat + beatLimit p) t e)) in
+              ∙ ap (λ (x : Server). beaten p t x .beat) z
+              ∙ ap (λ (x : Server). x .beat) (other {b = cleared s} (beatNow t (cleared s)) (ne-eqb (s .beat + beatLimit p) t e)) in
               let past = young .beat-past in
-              inr (omega (arith, frame-next, q)));
+              inr (omega (arith, frame-next, q))))
+              (λ z. inl (beats-alike sentAny any-alike ∙ ap (λ (x : Server). sentAny (beaten p t x)) z ∙ sends-replied (cleared s)));
         }
 
   -- ---- a backup, or a beater that hears a higher sender
@@ -207,12 +221,18 @@ module _ (c : State) (sound : Sound c) (links : AllWhole c) (k i : ℕ) (known :
   quiet-step =
       record {
         rests = rest;
-        stays-primary = λ e u. ap (λ (y : Server). y .role) (stay-primary (ways.primary-beats e) u e) ∙ beaten-keeps p t some (λ y. y .role) (cleared s) refl ∙ e;
+        stays-primary = λ e u.
+            ap (λ (y : Server). y .role) (stay-primary (ways.primary-beats e) u e)
+            ∙ beaten-keeps p t some (λ y. y .role) (m (ways.primary-beats e) u) refl
+            ∙ kept (ways.primary-beats e) u (λ y. y .role) refl
+            ∙ e;
         stays-prospect = λ e u h.
             let past = young .prospect-past in
             let g = stay-prospect (ways.prospect-beats e) u e (λ z. omega arith) in
-            let q : place (runs (suc k) c) i .prospect ≡ s .prospect = ap (λ (y : Server). y .prospect) g ∙ beaten-keeps p t some (λ y. y .prospect) (cleared s) refl in
-            (ap (λ (y : Server). y .role) g ∙ beaten-keeps p t some (λ y. y .role) (cleared s) refl ∙ e, omega (arith, frame-next, q));
+            let b = ways.prospect-beats e in
+            let q : place (runs (suc k) c) i .prospect ≡ s .prospect =
+            ap (λ (y : Server). y .prospect) g ∙ beaten-keeps p t some (λ y. y .prospect) (m b u) refl ∙ kept b u (λ y. y .prospect) refl in
+            (ap (λ (y : Server). y .role) g ∙ beaten-keeps p t some (λ y. y .role) (m b u) refl ∙ kept b u (λ y. y .role) refl ∙ e, omega (arith, frame-next, q));
         becomes-primary = λ e u h.
             let past = young .prospect-past in
             ap (λ (y : Server). y .role) (ripen (ways.prospect-beats e) u e (omega arith));

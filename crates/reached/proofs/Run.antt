@@ -15,7 +15,7 @@ use Rattle.heartbeat.specs.Heartbeat.{isSet}
 use Rattle.heartbeat.proofs.Order.{irreflexive}
 use Rattle.server.specs.declared.Server.{Server}
 use Rattle.server.specs.Server.{rankOf, cleared, revealOf, sentAny}
-use Rattle.server.specs.Hearing.{fromHigher, fromLower}
+use Rattle.server.specs.Hearing.{fromHigher, fromLower, lowerReveals}
 use Rattle.server.proofs.Sent.{some-sent, reveal-sent, reveal-any, sent-rank, sent-reveal, sent-unmarked}
 use Rattle.group.specs.declared.State.{State}
 use Rattle.group.specs.Hearing.{place, over, hearsFrom, inbox}
@@ -23,7 +23,7 @@ use Rattle.group.specs.Frame.{advanced}
 use Rattle.traces.specs.Trace.{Trace, HearsHigher, HearsLowReveal, HearsAny}
 use Rattle.group.proofs.Next.{Apart}
 use Rattle.group.proofs.Inbox.{in-inbox, of-inbox}
-use Rattle.reached.proofs.Heard.{unmarkedAll, callsUp, noCall, empty?}
+use Rattle.reached.proofs.Heard.{unmarkedAll, noCall, empty?}
 use Rattle.reached.proofs.Sound.{Sound, NoPass, AllWhole, rank-kept, hears-apart, sound-advanced, no-pass}
 
 -- the channel k frames on, whether the day has so many or not
@@ -129,7 +129,7 @@ module _ (c : State) (sound : Sound c) (links : AllWhole c) where
         (λ e. e)
 
     -- a reveal of a lower sender
-    pub low-in : HearsLowReveal (traceOf c) k i → (h : Heartbeat) × List·Memᴰ h (inbox at i) × (callsUp hearer h ≡ true)
+    pub low-in : HearsLowReveal (traceOf c) k i → (h : Heartbeat) × List·Memᴰ h (inbox at i) × (lowerReveals hearer h ≡ true)
     low-in r =
         let w = place at (r .who) in
         let m = reveal-sent w (r .revealed) in
@@ -141,9 +141,9 @@ module _ (c : State) (sound : Sound c) (links : AllWhole c) where
 
     pub no-low-in : ¬ HearsLowReveal (traceOf c) k i → noCall hearer (inbox at i) ≡ true
     no-low-in n =
-        every-of (λ h. not (callsUp hearer h)) (inbox at i)
+        every-of (λ h. not (lowerReveals hearer h)) (inbox at i)
         (λ h m.
-        on (tested (callsUp hearer h))
+        on (tested (lowerReveals hearer h))
         (λ e.
         let o = of-inbox at i apart h m in
         let set = fst-true (isSet (h .reveal)) _ e in

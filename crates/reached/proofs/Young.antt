@@ -7,16 +7,15 @@ use Prim.Native.Nat.{ℕ, _+_, _<_, _≤_}
 use native.Mathlib.Omega.{arith}
 use Rattle.lists.proofs.Cases.{clash, by-choice}
 use Rattle.heartbeat.specs.declared.Heartbeat.{Heartbeat}
-use Rattle.heartbeat.specs.Heartbeat.{isSet}
 use Rattle.roles.specs.declared.Role.{Role}
 use Rattle.roles.specs.declared.Role.the-variants.{Down, Idle, Sync, Backup, Prospect, Primary}
 use Rattle.roles.specs.declared.Event.{Event}
-use Rattle.roles.specs.declared.Event.the-variants.{Nothing, ToBackup, ToProspectBeat, ToProspectReveal, Lower}
+use Rattle.roles.specs.declared.Event.the-variants.{Nothing, ToBackup, ToProspectBeat, ToProspectReveal, Lower, LowerBeat, Beat}
 use Rattle.periods.specs.declared.Period.{Period}
 use Rattle.server.specs.declared.Server.{Server}
 use Rattle.periods.specs.Period.{silenceLimit, prospectLimit, beatLimit}
 use Rattle.server.specs.Server.{after}
-use Rattle.server.specs.Hearing.{fromHigher, fromLower, forThis, backupHears, prospectHears, primaryHears, hearsIn, attending, heard, heardAll}
+use Rattle.server.specs.Hearing.{fromHigher, fromLower, forThis, lowerReveals, backupHears, replies, prospectHears, primaryHears, hearsIn, attending, heard, heardAll}
 use Rattle.roles.specs.Roles.{isActive, isBeating}
 use Rattle.traces.proofs.Ways as ways
 
@@ -80,6 +79,8 @@ pub data IsHearing : Event → Type 0 where
   beats : IsHearing ToProspectBeat
   reveals : IsHearing ToProspectReveal
   notes : IsHearing Lower
+  notes-replies : IsHearing LowerBeat
+  answers : IsHearing Beat
 
 module _ (p : Period) (t : ℕ) where
   due-backup : {r : Role} {a b d : ℕ} → DueIn p t r a b d → DueIn p t Backup t b d
@@ -106,6 +107,17 @@ module _ (p : Period) (t : ℕ) where
         prospect-due = λ _. omega arith;
       }
 
+  due-beat : {r : Role} {a b d : ℕ} → DueIn p t r a b d → DueIn p t r a t d
+  due-beat y =
+      record {
+        silence-past = y .silence-past;
+        beat-past = omega arith;
+        prospect-past = y .prospect-past;
+        silence-due = y .silence-due;
+        beat-due = λ _. omega arith;
+        prospect-due = y .prospect-due;
+      }
+
   due-attending : (r : Role) (s : Server) → s .role ≡ r → Due p t s → Due p t (attending t r s)
   due-attending Down s e y = y
   due-attending Idle s e y = y
@@ -122,6 +134,8 @@ module _ (p : Period) (t : ℕ) where
   due-hearing s beats y = due-prospect y
   due-hearing s reveals y = due-prospect y
   due-hearing s notes y = y
+  due-hearing s notes-replies y = due-beat y
+  due-hearing s answers y = due-beat y
 
 -- hearing has no other events
 pub hears-only : (r : Role) (s : Server) (h : Heartbeat) → IsHearing (hearsIn r s h)
@@ -129,9 +143,11 @@ unfolding backupHears prospectHears primaryHears
 hears-only Down s h = nothing
 hears-only Idle s h = nothing
 hears-only Sync s h = nothing
-hears-only Backup s h = by-choice IsHearing (forThis s h) (λ _. beats) (λ _. by-choice IsHearing (isSet (h .reveal) && fromLower s h) (λ _. reveals) (λ _. nothing))
-hears-only Prospect s h = by-choice IsHearing (fromHigher s h) (λ _. backs) (λ _. nothing)
-hears-only Primary s h = by-choice IsHearing (fromHigher s h) (λ _. backs) (λ _. by-choice IsHearing (fromLower s h) (λ _. notes) (λ _. nothing))
+hears-only Backup s h = by-choice IsHearing (forThis s h) (λ _. beats) (λ _. by-choice IsHearing (lowerReveals s h) (λ _. reveals) (λ _. nothing))
+hears-only Prospect s h = by-choice IsHearing (fromHigher s h) (λ _. backs) (λ _. by-choice IsHearing (replies s h) (λ _. answers) (λ _. nothing))
+hears-only Primary s h =
+    by-choice IsHearing (fromHigher s h) (λ _. backs)
+    (λ _. by-choice IsHearing (replies s h) (λ _. notes-replies) (λ _. by-choice IsHearing (fromLower s h) (λ _. notes) (λ _. nothing)))
 
 pub due-heard : (p : Period) (t : ℕ) (s : Server) (hs : List Heartbeat) → Due p t s → Due p t (heardAll t s hs)
 unfolding heardAll

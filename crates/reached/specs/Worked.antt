@@ -46,34 +46,34 @@ allReady ks =
     ∷ verb Ready 3 0 lent
     ∷ ks
 
--- nobody is ready before frame 12
+-- nobody is ready before frame 13
 abbrev pub lateReady : List Call
-lateReady = advanceTo 12 lent ∷ allReady []
+lateReady = advanceTo 13 lent ∷ allReady []
 
 -- a lower server is primary when the higher ones get ready
 abbrev pub lowerBeats : List Call
 lowerBeats =
     verb Start 1 0 lent
     ∷ verb Ready 1 0 lent
-    ∷ advanceTo 12 lent
+    ∷ advanceTo 13 lent
     ∷ verb Start 2 0 lent
     ∷ verb Ready 2 0 lent
     ∷ verb Start 3 0 lent
     ∷ verb Ready 3 0 lent
     ∷ []
 
--- the group that needs all of 4 periods and 2 frames: with 3 unheard by 2, both are primary in
--- frame 12, where 3 passes to 1 and the link is mended
+-- the group that needs all of 4 periods and 2 frames: with 3 unheard by 2, both are primary from
+-- frame 12 on and beat in frame 13, where 3 passes to 1 and the link is mended
 abbrev pub slowest : List Call
-slowest = allReady (advanceTo 6 lent ∷ verb Cut 3 2 lent ∷ advanceTo 12 lent ∷ verb Pass 3 1 lent ∷ verb Mend 3 2 lent ∷ [])
+slowest = allReady (advanceTo 6 lent ∷ verb Cut 3 2 lent ∷ advanceTo 13 lent ∷ verb Pass 3 1 lent ∷ verb Mend 3 2 lent ∷ [])
 
 -- the primary passes to the lowest, which hears it in frame t + 1
 abbrev pub passing : List Call
-passing = allReady (advanceTo 12 lent ∷ verb Pass 3 1 lent ∷ [])
+passing = allReady (advanceTo 13 lent ∷ verb Pass 3 1 lent ∷ [])
 
 -- two primaries, and the cut link, from one of them to the other, mended in frame t
 abbrev pub twoPrimaries : List Call
-twoPrimaries = allReady (advanceTo 6 lent ∷ verb Cut 3 2 lent ∷ advanceTo 12 lent ∷ verb Mend 3 2 lent ∷ [])
+twoPrimaries = allReady (advanceTo 6 lent ∷ verb Cut 3 2 lent ∷ advanceTo 13 lent ∷ verb Mend 3 2 lent ∷ [])
 
 abbrev pub opened : List Rank → State
 opened rs = fresh (tableOf rs) 3

@@ -5,7 +5,7 @@ use Rattle.text.specs.Words.{bytes}
 use Rattle.roles.specs.declared.Word.{Word}
 use Rattle.roles.specs.declared.Word.the-variants as word
 use Rattle.roles.specs.declared.Event.{Event}
-use Rattle.roles.specs.declared.Event.the-variants.{Nothing, ToBackup, ToProspectBeat, ToProspectReveal, Lower, Beat, ToPrimary, ToSync, ToIdle, ToDown, Passed}
+use Rattle.roles.specs.declared.Event.the-variants.{Nothing, ToBackup, ToProspectBeat, ToProspectReveal, Lower, LowerBeat, Beat, ToPrimary, ToSync, ToIdle, ToDown, Passed}
 use Rattle.roles.specs.declared.Said.{Said}
 use Rattle.roles.specs.declared.Said.the-variants as says
 
@@ -26,13 +26,15 @@ wordBytes word.Cut = bytes "cut"
 wordBytes word.Mended = bytes "mended"
 
 -- what an event prints: "Entering prospect prints the role, then the heartbeat; `pass` prints
--- before `backup`."
+-- before `backup`." And "the reply follows any `lower` note of the same heartbeat" (document 02,
+-- A.2)
 abbrev pub said : Event → Said
 said Nothing = says.Nothing
 said ToBackup = says.One word.Backup
 said ToProspectBeat = says.Two word.Prospect word.Beat
 said ToProspectReveal = says.Two word.Prospect word.Reveal
 said Lower = says.One word.Lower
+said LowerBeat = says.Two word.Lower word.Beat
 said Beat = says.One word.Beat
 said ToPrimary = says.One word.Primary
 said ToSync = says.One word.Sync

@@ -25,6 +25,8 @@ pub enum Event {
     ToProspectBeat,
     ToProspectReveal,
     Lower,
+    // A primary's note, and its reply.
+    LowerBeat,
     Beat,
     ToPrimary,
     ToSync,
@@ -218,6 +220,7 @@ impl Event {
             Event::ToProspectBeat => Said::Two(Word::Prospect, Word::Beat),
             Event::ToProspectReveal => Said::Two(Word::Prospect, Word::Reveal),
             Event::Lower => Said::One(Word::Lower),
+            Event::LowerBeat => Said::Two(Word::Lower, Word::Beat),
             Event::Beat => Said::One(Word::Beat),
             Event::ToPrimary => Said::One(Word::Primary),
             Event::ToSync => Said::One(Word::Sync),

@@ -3,18 +3,19 @@ use mathlib.Core.Bool.{Bool, true, false, not, _&&_}
 use mathlib.Core.Path.{_≡_, refl, sym, ap, ap₂, _∙_}
 use mathlib.Core.Logic.{_⊎_, inl, inr}
 use mathlib.Core.List.{List, [], _∷_, List·Memᴰ, List·Memᴰ·head, Memᴰ·append-left, Memᴰ·append-right}
-use Prim.Native.Nat.{ℕ, zero, suc}
+use Prim.Native.Nat.{ℕ, zero, suc, _+_}
+use native.Mathlib.Omega.{arith}
 use borrow.Author.Tests.{eq-eqb, ne-eqb, eqb-true, not-true}
-use lib.Dec.{eqb}
+use lib.Dec.{ltb, eqb}
 use lib.ListN.{replicate}
 use Rattle.lists.specs.Choice.{choose}
 use Rattle.lists.specs.Lists.{every}
-use Rattle.lists.proofs.Cases.{tested, equal, chosen, other, and-true, fst-true, snd-true, on, clash}
+use Rattle.lists.proofs.Cases.{tested, equal, chosen, other, and-true, fst-true, snd-true, on, clash, by-choice}
 use Rattle.lists.proofs.Clear.{every-append, every-mem}
 use Rattle.heartbeat.specs.declared.Heartbeat.{Heartbeat}
 use Rattle.heartbeat.specs.Heartbeat.{sender, isSet}
 use Rattle.server.specs.declared.Server.{Server}
-use Rattle.server.specs.Server.{rankOf, plainOf, revealOf, passOf, sentBy, sentAny}
+use Rattle.server.specs.Server.{rankOf, mostBeats, oneMore, sendBeat, plainOf, revealOf, passOf, sentBy, sentAny}
 
 every-replicate : (p : Heartbeat → Bool) (n : ℕ) (h : Heartbeat) → p h ≡ true → every p (replicate n h) ≡ true
 every-replicate p zero h e = refl
@@ -79,6 +80,12 @@ reveal-any s e =
     on (equal (s .beats) 0)
     (λ z. chosen _ (eq-eqb (s .beats) 0 z) ∙ chosen _ e)
     (λ z. other _ (ne-eqb (s .beats) 0 z))
+
+-- and so is a plain beat
+pub beat-any : (s : Server) → sentAny (sendBeat s) ≡ true
+unfolding sentAny oneMore
+beat-any s =
+    other _ (by-choice (λ (n : ℕ). eqb n 0 ≡ false) (ltb (s .beats) mostBeats) (λ e. ne-eqb (s .beats + 1) 0 (λ z. omega arith)) (λ e. refl))
 
 -- the sender of what a server sent is that server
 pub sent-rank : (s : Server) (h : Heartbeat) → List·Memᴰ h (sentBy s) → sender h ≡ rankOf s

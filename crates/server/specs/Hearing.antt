@@ -10,10 +10,10 @@ use Rattle.heartbeat.specs.Heartbeat.{sender, isSet}
 use Rattle.roles.specs.declared.Role.{Role}
 use Rattle.roles.specs.declared.Role.the-variants.{Down, Idle, Sync, Backup, Prospect, Primary}
 use Rattle.roles.specs.declared.Event.{Event}
-use Rattle.roles.specs.declared.Event.the-variants.{Nothing, ToBackup, ToProspectBeat, ToProspectReveal, Lower}
+use Rattle.roles.specs.declared.Event.the-variants.{Nothing, ToBackup, ToProspectBeat, ToProspectReveal, Lower, LowerBeat, Beat}
 use Rattle.server.specs.declared.Server.{Server}
 use Rattle.server.specs.declared.Heard.{Heard}
-use Rattle.server.specs.Server.{rankOf, setSilence, after}
+use Rattle.server.specs.Server.{rankOf, setSilence, sentAny, after}
 
 -- "higher sender", "lower sender": of the hearer s. A heartbeat of TieBreaker 0 is heard like any
 -- other: no line has it, and the library for C gives it 2
@@ -27,19 +27,29 @@ fromLower s h = lower (sender h) (rankOf s)
 unfoldable pub forThis : Server → Heartbeat → Bool
 forThis s h = not (eqb (h .bs) 0) && eqb (h .bs) (s .identity)
 
+-- "Reveal is set and the sender is lower"
+abbrev pub lowerReveals : Server → Heartbeat → Bool
+lowerReveals s h = isSet (h .reveal) && fromLower s h
+
 -- "Then, if BS .. is this identity: to prospect, sending a plain beat. Else, if Reveal is set and
 -- the sender is lower: to prospect, sending a reveal."
 unfoldable pub backupHears : Server → Heartbeat → Event
-backupHears s h = choose (forThis s h) ToProspectBeat (choose (isSet (h .reveal) && fromLower s h) ToProspectReveal Nothing)
+backupHears s h = choose (forThis s h) ToProspectBeat (choose (lowerReveals s h) ToProspectReveal Nothing)
 
--- "prospect or primary, higher sender: to backup, silence age 0. BS is not looked at." "Prospect,
--- lower sender: nothing."
+-- "once only, and not if it has already sent in that frame" (document 02, A.2): a reply counts as
+-- sent, so no second one follows in the frame
+unfoldable pub replies : Server → Heartbeat → Bool
+replies s h = lowerReveals s h && not (sentAny s)
+
+-- "prospect or primary, higher sender: to backup, silence age 0. BS is not looked at." And "hears a
+-- reveal from a lower sender sends a plain beat in that frame .. its beat age becomes 0" (A.2); of
+-- document 01's "Prospect, lower sender: nothing" the rest stays
 unfoldable pub prospectHears : Server → Heartbeat → Event
-prospectHears s h = choose (fromHigher s h) ToBackup Nothing
+prospectHears s h = choose (fromHigher s h) ToBackup (choose (replies s h) Beat Nothing)
 
--- "primary, lower sender: a note `lower`"
+-- "primary, lower sender: a note `lower`"; where it replies (A.2), both in one event
 unfoldable pub primaryHears : Server → Heartbeat → Event
-primaryHears s h = choose (fromHigher s h) ToBackup (choose (fromLower s h) Lower Nothing)
+primaryHears s h = choose (fromHigher s h) ToBackup (choose (replies s h) LowerBeat (choose (fromLower s h) Lower Nothing))
 
 -- "down, idle, sync: nothing"
 abbrev pub hearsIn : Role → Server → Heartbeat → Event

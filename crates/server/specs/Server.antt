@@ -12,7 +12,7 @@ use Rattle.heartbeat.specs.declared.Heartbeat.{Heartbeat}
 use Rattle.roles.specs.declared.Role.{Role}
 use Rattle.roles.specs.declared.Role.the-variants.{Down, Idle, Sync, Backup, Prospect, Primary}
 use Rattle.roles.specs.declared.Event.{Event}
-use Rattle.roles.specs.declared.Event.the-variants.{Nothing, ToBackup, ToProspectBeat, ToProspectReveal, Lower, Beat, ToPrimary, ToSync, ToIdle, ToDown, Passed}
+use Rattle.roles.specs.declared.Event.the-variants.{Nothing, ToBackup, ToProspectBeat, ToProspectReveal, Lower, LowerBeat, Beat, ToPrimary, ToSync, ToIdle, ToDown, Passed}
 use Rattle.server.specs.declared.Server.{Server}
 use Rattle.server.specs.declared.Made.{Made}
 
@@ -60,8 +60,9 @@ abbrev pub setSent : ℕ → Bool → ℕ → Server → Server
 setSent n r b s =
     record { identity = s .identity; priority = s .priority; role = s .role; silence = s .silence; beat = s .beat; prospect = s .prospect; beats = n; reveal = r; pass = b }
 
--- the most plain beats that are counted in a frame: each of 15 other servers passes at most once,
--- and who becomes prospect in a frame has beat age 0, so that its timer adds none
+-- the most plain beats that are counted in a frame: each of 15 other servers passes at most once.
+-- Only who has sent nothing replies, and it hears no higher sender after that, so that no pass
+-- calls it up; and who replied or became prospect has beat age 0, so that its timer adds none
 abbrev pub mostBeats : ℕ
 mostBeats = 15
 
@@ -71,6 +72,10 @@ oneMore n = choose (ltb n mostBeats) (n + 1) mostBeats
 
 abbrev pub sendBeat : Server → Server
 sendBeat s = setSent (oneMore (s .beats)) (s .reveal) (s .pass) s
+
+-- "a plain beat, beat age 0"; "sends a plain beat .. its beat age becomes 0" (A.2)
+abbrev pub beatNow : ℕ → Server → Server
+beatNow t s = sendBeat (setBeat t s)
 
 abbrev pub sendReveal : Server → Server
 sendReveal s = setSent (s .beats) true (s .pass) s
@@ -100,7 +105,7 @@ passOf s = record { bs = s .pass; priority = s .priority; tiebreaker = s .identi
 unfoldable pub sentBy : Server → List Heartbeat
 sentBy s = replicate (s .beats) (plainOf s) ++ (choose (s .reveal) (revealOf s ∷ []) [] ++ choose (eqb (s .pass) 0) [] (passOf s ∷ []))
 
--- whether it sent anything
+-- whether it sent anything: "already sent in that frame" (document 02, A.2)
 unfoldable pub sentAny : Server → Bool
 sentAny s = choose (eqb (s .beats) 0) (choose (s .reveal) true (not (eqb (s .pass) 0))) true
 
@@ -113,7 +118,8 @@ after t s ToBackup = setSilence t (inRole Backup s)
 after t s ToProspectBeat = sendBeat (toProspect t s)
 after t s ToProspectReveal = sendReveal (toProspect t s)
 after t s Lower = s
-after t s Beat = sendBeat (setBeat t s)
+after t s LowerBeat = beatNow t s
+after t s Beat = beatNow t s
 after t s ToPrimary = inRole Primary s
 after t s ToSync = inRole Sync s
 after t s ToIdle = inRole Idle s

@@ -11,8 +11,8 @@ use roles::Verb;
 ghost use mathlib.Core.Path.{_≡_};
 ghost use Rattle.lists.specs.Choice.{choose};
 ghost use Rattle.roles.specs.Verbs.{enters};
-ghost use Rattle.server.specs.Server.{absent, idle, Makes, rankOf, inRole, oneMore, sendBeat, toProspect, cleared, plainOf, revealOf, passOf, sentAny, after};
-ghost use Rattle.server.specs.Hearing.{fromHigher, fromLower, forThis, backupHears, prospectHears, primaryHears, hears, attending, heard};
+ghost use Rattle.server.specs.Server.{absent, idle, Makes, rankOf, inRole, oneMore, sendBeat, beatNow, toProspect, cleared, plainOf, revealOf, passOf, sentAny, after};
+ghost use Rattle.server.specs.Hearing.{fromHigher, fromLower, forThis, lowerReveals, backupHears, replies, prospectHears, primaryHears, hears, attending, heard};
 ghost use Rattle.server.specs.Timers.{silent, beating, rising, timed};
 ghost use Rattle.server.specs.Verbs.{verbAnswer, refusing, Acts};
 
@@ -158,6 +158,15 @@ impl Server {
         self
     }
 
+    // A plain beat, beat age 0.
+    fn beat_now(self, frame: u32) -> Server
+        ensures { λ r. ⌜ r ≡ beatNow frame self ⌝ }
+    {
+        let mut next = self;
+        next.beat = frame;
+        next.send_beat()
+    }
+
     // After an event of a frame.
     pub fn after(self, frame: u32, event: Event) -> Server
         ensures { λ r. ⌜ r ≡ after frame self event ⌝ }
@@ -176,11 +185,8 @@ impl Server {
                 next
             }
             Event::Lower => self,
-            Event::Beat => {
-                let mut next = self;
-                next.beat = frame;
-                next.send_beat()
-            }
+            Event::LowerBeat => self.beat_now(frame),
+            Event::Beat => self.beat_now(frame),
             Event::ToPrimary => self.in_role(Role::Primary),
             Event::ToSync => self.in_role(Role::Sync),
             Event::ToIdle => self.in_role(Role::Idle),
@@ -283,16 +289,30 @@ impl Server {
         (h.bs != 0) & (h.bs == self.identity)
     }
 
+    // A reveal from a lower sender.
+    fn lower_reveals(self, h: Heartbeat) -> bool
+        ensures { λ r. ⌜ r ≡ lowerReveals self h ⌝ }
+    {
+        h.reveals() & self.from_lower(h)
+    }
+
     fn backup_hears(self, h: Heartbeat) -> Event
         ensures { λ r. ⌜ r ≡ backupHears self h ⌝ }
     {
         if self.for_this(h) {
             Event::ToProspectBeat
-        } else if h.reveals() & self.from_lower(h) {
+        } else if self.lower_reveals(h) {
             Event::ToProspectReveal
         } else {
             Event::Nothing
         }
+    }
+
+    // Whether a prospect or primary replies: one that has not sent in this frame yet.
+    fn replies(self, h: Heartbeat) -> bool
+        ensures { λ r. ⌜ r ≡ replies self h ⌝ }
+    {
+        self.lower_reveals(h) & !self.sent_any()
     }
 
     fn prospect_hears(self, h: Heartbeat) -> Event
@@ -300,6 +320,8 @@ impl Server {
     {
         if self.from_higher(h) {
             Event::ToBackup
+        } else if self.replies(h) {
+            Event::Beat
         } else {
             Event::Nothing
         }
@@ -310,6 +332,8 @@ impl Server {
     {
         if self.from_higher(h) {
             Event::ToBackup
+        } else if self.replies(h) {
+            Event::LowerBeat
         } else if self.from_lower(h) {
             Event::Lower
         } else {

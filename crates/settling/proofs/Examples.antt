@@ -74,12 +74,12 @@ example :
     NoLinkCut (opened rs) ks → Example rs ks ended next settled
 unfolding says
 example rs ks ended next settled taken e u =
-    let f = snd-true (eqb (channelAfter (opened rs) ks .frame) 12) _ e in
+    let f = snd-true (eqb (channelAfter (opened rs) ks .frame) 13) _ e in
     let g = snd-true (same (rolesOf (channelAfter (opened rs) ks)) ended) _ f in
     record {
       table = taken;
       uncut = u;
-      ends = eqb-true _ _ (fst-true (eqb (channelAfter (opened rs) ks .frame) 12) _ e);
+      ends = eqb-true _ _ (fst-true (eqb (channelAfter (opened rs) ks .frame) 13) _ e);
       roles = same-equal _ _ (fst-true _ _ f);
       after = same-equal _ _ (fst-true _ _ g);
       later = same-equal _ _ (snd-true (same (rolesOf (advanced (channelAfter (opened rs) ks))) next) _ g);
@@ -113,7 +113,7 @@ examples =
     let c3 = snd-true (says (channelAfter (opened twoHighest) lateReady) (3 ∷ 3 ∷ 3 ∷ []) (3 ∷ 3 ∷ 3 ∷ []) (3 ∷ 5 ∷ 3 ∷ [])) _ c2 in
     let c4 = snd-true (says (channelAfter (opened threeHighest) passing) (3 ∷ 3 ∷ 3 ∷ []) (4 ∷ 3 ∷ 3 ∷ []) (5 ∷ 3 ∷ 3 ∷ [])) _ c3 in
     let c5 = snd-true (says (channelAfter (opened threeHighest) twoPrimaries) (3 ∷ 5 ∷ 5 ∷ []) (3 ∷ 3 ∷ 5 ∷ []) (3 ∷ 3 ∷ 5 ∷ [])) _ c4 in
-    let c6 = snd-true (same (rolesOf (channelAfter (channelAfter (opened threeHighest) slowest) (advanceTo 25 lent ∷ []))) (3 ∷ 3 ∷ 4 ∷ [])) _ c5 in
+    let c6 = snd-true (same (rolesOf (channelAfter (channelAfter (opened threeHighest) slowest) (advanceTo 26 lent ∷ []))) (3 ∷ 3 ∷ 4 ∷ [])) _ c5 in
     record {
       lower-beats = example threeHighest lowerBeats _ _ _ taken-three (fst-true _ _ computed)
           (λ a b. untouched a b (opened threeHighest) lowerBeats false (more refl (more refl (more refl (more refl (more refl (more refl (more refl none))))))));

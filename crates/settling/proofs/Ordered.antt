@@ -8,7 +8,7 @@ use lib.ListN.{replicate, replicate-append-replicate}
 use Rattle.lists.specs.Choice.{choose}
 use Rattle.lists.proofs.Cases.{chosen, other}
 use Rattle.heartbeat.specs.declared.Heartbeat.{Heartbeat}
-use Rattle.roles.specs.declared.Event.the-variants.{Nothing, ToBackup, ToProspectBeat, ToProspectReveal, Lower, Beat, ToPrimary, ToSync, ToIdle, ToDown, Passed}
+use Rattle.roles.specs.declared.Event.the-variants.{Nothing, ToBackup, ToProspectBeat, ToProspectReveal, Lower, LowerBeat, Beat, ToPrimary, ToSync, ToIdle, ToDown, Passed}
 use Rattle.server.specs.declared.Server.{Server}
 use Rattle.server.specs.Server.{plainOf, revealOf, passOf, sendPass, mostBeats, oneMore, sentBy, after}
 use Rattle.settling.specs.Sending.{Appends}
@@ -63,6 +63,10 @@ beat-appends t s z r l = beat-behind s (after t s ToProspectBeat) z r l refl ref
 pub timer-appends : (t : ℕ) (s : Server) → s .pass ≡ 0 → s .reveal ≡ false → s .beats < 15 → Appends t s Beat
 unfolding after
 timer-appends t s z r l = beat-behind s (after t s Beat) z r l refl refl refl refl
+
+pub note-appends : (t : ℕ) (s : Server) → s .pass ≡ 0 → s .reveal ≡ false → s .beats < 15 → Appends t s LowerBeat
+unfolding after
+note-appends t s z r l = beat-behind s (after t s LowerBeat) z r l refl refl refl refl
 
 pub nothing-appends : (t : ℕ) (s : Server) → Appends t s Nothing
 unfolding after

@@ -5,7 +5,7 @@ use mathlib.Core.List.{List, [], _∷_, _++_}
 use Prim.Native.Nat.{ℕ, _+_, _<_}
 use Rattle.heartbeat.specs.declared.Heartbeat.{Heartbeat}
 use Rattle.roles.specs.declared.Event.{Event}
-use Rattle.roles.specs.declared.Event.the-variants.{Nothing, ToBackup, ToProspectBeat, ToProspectReveal, Lower, Beat, ToPrimary, ToSync, ToIdle, ToDown, Passed}
+use Rattle.roles.specs.declared.Event.the-variants.{Nothing, ToBackup, ToProspectBeat, ToProspectReveal, Lower, LowerBeat, Beat, ToPrimary, ToSync, ToIdle, ToDown, Passed}
 use Rattle.server.specs.declared.Server.{Server}
 use Rattle.roles.specs.declared.Verb.{Verb}
 use Rattle.server.specs.Server.{cleared, plainOf, revealOf, passOf, sendPass, sentBy, after}
@@ -26,6 +26,7 @@ sends s ToBackup = []
 sends s ToProspectBeat = plainOf s ∷ []
 sends s ToProspectReveal = revealOf s ∷ []
 sends s Lower = []
+sends s LowerBeat = plainOf s ∷ []
 sends s Beat = plainOf s ∷ []
 sends s ToPrimary = []
 sends s ToSync = []

@@ -14,7 +14,7 @@ use Rattle.heartbeat.specs.Heartbeat.{sender}
 use Rattle.roles.specs.declared.Role.{Role}
 use Rattle.roles.specs.declared.Role.the-variants.{Down, Idle, Sync, Backup, Prospect, Primary}
 use Rattle.roles.specs.declared.Event.{Event}
-use Rattle.roles.specs.declared.Event.the-variants.{Nothing, ToBackup, ToProspectBeat, ToProspectReveal, Lower, Beat, ToPrimary, ToSync, ToIdle, ToDown, Passed}
+use Rattle.roles.specs.declared.Event.the-variants.{Nothing, ToBackup, ToProspectBeat, ToProspectReveal, Lower, LowerBeat, Beat, ToPrimary, ToSync, ToIdle, ToDown, Passed}
 use Rattle.periods.specs.declared.Period.{Period}
 use Rattle.server.specs.declared.Server.{Server}
 use Rattle.server.specs.Server.{absent, cleared, mostBeats, oneMore, plainOf, revealOf, passOf, sentBy, after}
@@ -55,6 +55,7 @@ few-after t s ToBackup h = h
 few-after t s ToProspectBeat h = few-more (s .beats)
 few-after t s ToProspectReveal h = h
 few-after t s Lower h = h
+few-after t s LowerBeat h = few-more (s .beats)
 few-after t s Beat h = few-more (s .beats)
 few-after t s ToPrimary h = h
 few-after t s ToSync h = h

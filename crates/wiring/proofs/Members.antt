@@ -10,7 +10,7 @@ use Rattle.heartbeat.specs.declared.Rank.{Rank}
 use Rattle.roles.specs.declared.Role.{Role}
 use Rattle.roles.specs.declared.Role.the-variants.{Down, Idle, Sync, Backup, Prospect, Primary}
 use Rattle.roles.specs.declared.Event.{Event}
-use Rattle.roles.specs.declared.Event.the-variants.{Nothing, ToBackup, ToProspectBeat, ToProspectReveal, Lower, Beat, ToPrimary, ToSync, ToIdle, ToDown, Passed}
+use Rattle.roles.specs.declared.Event.the-variants.{Nothing, ToBackup, ToProspectBeat, ToProspectReveal, Lower, LowerBeat, Beat, ToPrimary, ToSync, ToIdle, ToDown, Passed}
 use Rattle.periods.specs.declared.Period.{Period}
 use Rattle.server.specs.declared.Server.{Server}
 use Rattle.server.specs.Server.{rankOf, cleared, sentBy, after}
@@ -42,6 +42,7 @@ sentAs r ToBackup = []
 sentAs r ToProspectBeat = record { bs = 0; priority = r .priority; tiebreaker = r .identity; reveal = 0 } ∷ []
 sentAs r ToProspectReveal = record { bs = 0; priority = r .priority; tiebreaker = r .identity; reveal = 1 } ∷ []
 sentAs r Lower = []
+sentAs r LowerBeat = record { bs = 0; priority = r .priority; tiebreaker = r .identity; reveal = 0 } ∷ []
 sentAs r Beat = record { bs = 0; priority = r .priority; tiebreaker = r .identity; reveal = 0 } ∷ []
 sentAs r ToPrimary = []
 sentAs r ToSync = []
@@ -56,6 +57,7 @@ sends-as s ToBackup = refl
 sends-as s ToProspectBeat = refl
 sends-as s ToProspectReveal = refl
 sends-as s Lower = refl
+sends-as s LowerBeat = refl
 sends-as s Beat = refl
 sends-as s ToPrimary = refl
 sends-as s ToSync = refl

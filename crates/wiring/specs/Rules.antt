@@ -7,9 +7,10 @@ use Rattle.wiring.specs.Settles.{GroupsSettle, FramesMayFollow, RefusedM
 use Rattle.wiring.specs.Anew.{NewFrontsGoOn}
 use Rattle.wiring.specs.Days.{OneSheetOfADay, DaysCanBePlayed, DaysAreRead}
 
--- 1 for the rules of document 01; one more with every change of the rules that a sheet can show
+-- 1 for the rules of document 01, 2 since a reveal gets a reply (A.2); one more with every change
+-- of the rules that a sheet can show
 abbrev pub rulesNumber : ℕ
-rulesNumber = 1
+rulesNumber = 2
 
 pub record Rules (r : ℕ) : Type 0 where
   pub number : r ≡ rulesNumber

@@ -4,9 +4,9 @@ use group::Table;
 use server::Server;
 ghost use Rattle.wiring.specs.Rules.{Rules, MostHeard};
 
-// 1 for the rules of document 01. It rises by 1 with every change of the rules that a sheet can
-// show.
-pub const RULES: u32 = 1;
+// 1 for the rules of document 01, 2 since a reveal gets a reply. It rises by 1 with every change of
+// the rules that a sheet can show.
+pub const RULES: u32 = 2;
 
 // The number of the rules by which these servers play. Servers of one number, wired by the
 // protocol, print the one sheet of their day.

@@ -5,8 +5,8 @@
 use std::mem::size_of;
 
 /// What this file is written for; `rules` and `version` say what is linked.
-pub const RULES: u32 = 1;
-pub const VERSION: u32 = 1001;
+pub const RULES: u32 = 2;
+pub const VERSION: u32 = 2000;
 /// A version is this many times the major, and the minor.
 pub const MAJOR: u32 = 1000;
 

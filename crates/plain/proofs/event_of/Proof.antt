@@ -47,11 +47,15 @@ unfolding eventOf choose
 returns-10 c = rw (c .match .keys10)
 
 returns-11 : tie.Need-returns-11
+unfolding eventOf choose
+returns-11 c = rw (c .match .keys11)
+
+returns-12 : tie.Need-returns-12
 unfolding eventOf
-returns-11 c =
+returns-12 c =
     let r = c .match .rest in
     sym
-    (other _ (ne-eqb _ _ (r .0 .0 .0 .0 .0 .0 .0 .0 .0 .1)) ∙ other _ (ne-eqb _ _ (r .0 .0 .0 .0 .0 .0 .0 .0 .1)) ∙ other _ (ne-eqb _ _ (r .0 .0 .0 .0 .0 .0 .0 .1)) ∙ other _ (ne-eqb _ _ (r .0 .0 .0 .0 .0 .0 .1)) ∙ other _ (ne-eqb _ _ (r .0 .0 .0 .0 .0 .1)) ∙ other _ (ne-eqb _ _ (r .0 .0 .0 .0 .1)) ∙ other _ (ne-eqb _ _ (r .0 .0 .0 .1)) ∙ other _ (ne-eqb _ _ (r .0 .0 .1)) ∙ other _ (ne-eqb _ _ (r .0 .1)) ∙ other _ (ne-eqb _ _ (r .1)))
+    (other _ (ne-eqb _ _ (r .0 .0 .0 .0 .0 .0 .0 .0 .0 .0 .1)) ∙ other _ (ne-eqb _ _ (r .0 .0 .0 .0 .0 .0 .0 .0 .0 .1)) ∙ other _ (ne-eqb _ _ (r .0 .0 .0 .0 .0 .0 .0 .0 .1)) ∙ other _ (ne-eqb _ _ (r .0 .0 .0 .0 .0 .0 .0 .1)) ∙ other _ (ne-eqb _ _ (r .0 .0 .0 .0 .0 .0 .1)) ∙ other _ (ne-eqb _ _ (r .0 .0 .0 .0 .0 .1)) ∙ other _ (ne-eqb _ _ (r .0 .0 .0 .0 .1)) ∙ other _ (ne-eqb _ _ (r .0 .0 .0 .1)) ∙ other _ (ne-eqb _ _ (r .0 .0 .1)) ∙ other _ (ne-eqb _ _ (r .0 .1)) ∙ other _ (ne-eqb _ _ (r .1)))
 
 pub event-of-spec : {M : Type 1} → statement M
-event-of-spec = tie.close (tie.spec returns returns-2 returns-3 returns-4 returns-5 returns-6 returns-7 returns-8 returns-9 returns-10 returns-11)
+event-of-spec = tie.close (tie.spec returns returns-2 returns-3 returns-4 returns-5 returns-6 returns-7 returns-8 returns-9 returns-10 returns-11 returns-12)

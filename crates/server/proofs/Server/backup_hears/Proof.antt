@@ -1,5 +1,4 @@
-use mathlib.Core.Path.{sym, ap₂, _∙_}
-use mathlib.Core.Bool.{_&&_}
+use mathlib.Core.Path.{sym, _∙_}
 use Rattle.lists.proofs.Cases.{chosen, other}
 use Rattle.server.specs.Hearing.{backupHears}
 use borrow.Author.Needs.{needs}
@@ -13,20 +12,19 @@ returns c = sym (chosen _ (sym (c .before .for-this .ensures) ∙ c .if1 .taken)
 returns-2 : tie.Need-returns-2
 unfolding backupHears
 returns-2 c =
-    sym (other _ (sym (c .before .before .before .before .for-this .ensures) ∙ c .before .before .before .if1 .left)
-    ∙ chosen _ (sym (ap₂ _&&_ (c .before .before .reveals .ensures) (c .before .from-lower .ensures)) ∙ c .if2 .taken))
+    sym (other _ (sym (c .before .before .before .for-this .ensures) ∙ c .before .before .if1 .left)
+    ∙ chosen _ (sym (c .before .lower-reveals .ensures) ∙ c .if2 .taken))
 
 returns-3 : tie.Need-returns-3
 unfolding backupHears
 returns-3 c =
-    sym (other _ (sym (c .before .before .before .before .for-this .ensures) ∙ c .before .before .before .if1 .left)
-    ∙ other _ (sym (ap₂ _&&_ (c .before .before .reveals .ensures) (c .before .from-lower .ensures)) ∙ c .if2 .left))
+    sym (other _ (sym (c .before .before .before .for-this .ensures) ∙ c .before .before .if1 .left)
+    ∙ other _ (sym (c .before .lower-reveals .ensures) ∙ c .if2 .left))
 
 pub backup-hears-spec : {M : Type 1} → statement M
 backup-hears-spec =
     tie.close
     (tie.spec
-    (λ c κs. search needs)
     (λ c κs. search needs)
     (λ c κs. search needs)
     returns

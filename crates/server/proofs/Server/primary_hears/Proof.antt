@@ -13,13 +13,21 @@ returns-2 : tie.Need-returns-2
 unfolding primaryHears
 returns-2 c =
     sym (other _ (sym (c .before .before .before .from-higher .ensures) ∙ c .before .before .if1 .left)
-    ∙ chosen _ (sym (c .before .from-lower .ensures) ∙ c .if2 .taken))
+    ∙ chosen _ (sym (c .before .replies .ensures) ∙ c .if2 .taken))
 
 returns-3 : tie.Need-returns-3
 unfolding primaryHears
 returns-3 c =
-    sym (other _ (sym (c .before .before .before .from-higher .ensures) ∙ c .before .before .if1 .left)
-    ∙ other _ (sym (c .before .from-lower .ensures) ∙ c .if2 .left))
+    sym (other _ (sym (c .before .before .before .before .before .from-higher .ensures) ∙ c .before .before .before .before .if1 .left)
+    ∙ other _ (sym (c .before .before .before .replies .ensures) ∙ c .before .before .if2 .left)
+    ∙ chosen _ (sym (c .before .from-lower .ensures) ∙ c .if3 .taken))
+
+returns-4 : tie.Need-returns-4
+unfolding primaryHears
+returns-4 c =
+    sym (other _ (sym (c .before .before .before .before .before .from-higher .ensures) ∙ c .before .before .before .before .if1 .left)
+    ∙ other _ (sym (c .before .before .before .replies .ensures) ∙ c .before .before .if2 .left)
+    ∙ other _ (sym (c .before .from-lower .ensures) ∙ c .if3 .left))
 
 pub primary-hears-spec : {M : Type 1} → statement M
 primary-hears-spec =
@@ -27,6 +35,8 @@ primary-hears-spec =
     (tie.spec
     (λ c κs. search needs)
     (λ c κs. search needs)
+    (λ c κs. search needs)
     returns
     returns-2
-    returns-3)
+    returns-3
+    returns-4)

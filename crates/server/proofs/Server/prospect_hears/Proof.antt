@@ -11,12 +11,22 @@ returns c = sym (chosen _ (sym (c .before .from-higher .ensures) ∙ c .if1 .tak
 
 returns-2 : tie.Need-returns-2
 unfolding prospectHears
-returns-2 c = sym (other _ (sym (c .before .from-higher .ensures) ∙ c .if1 .left))
+returns-2 c =
+    sym (other _ (sym (c .before .before .before .from-higher .ensures) ∙ c .before .before .if1 .left)
+    ∙ chosen _ (sym (c .before .replies .ensures) ∙ c .if2 .taken))
+
+returns-3 : tie.Need-returns-3
+unfolding prospectHears
+returns-3 c =
+    sym (other _ (sym (c .before .before .before .from-higher .ensures) ∙ c .before .before .if1 .left)
+    ∙ other _ (sym (c .before .replies .ensures) ∙ c .if2 .left))
 
 pub prospect-hears-spec : {M : Type 1} → statement M
 prospect-hears-spec =
     tie.close
     (tie.spec
     (λ c κs. search needs)
+    (λ c κs. search needs)
     returns
-    returns-2)
+    returns-2
+    returns-3)
