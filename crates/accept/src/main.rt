@@ -5,6 +5,8 @@
 // the judge asks for it and the sheet otherwise, both no further than it takes to decide. A file
 // that cannot be opened, and a folder, count as empty. A proved loop has to end, and nothing says
 // that an input does, so the loop counts its turns down from a number that no run uses up.
+#![tactic(auto)]
+
 ghost use Rattle.std.specs.Prelude.{◌≡◌, ◌+◌, ◌≤◌};
 ghost use Rattle.accept.specs.Steps.{Holds};
 
@@ -18,7 +20,7 @@ use places::Packed;
 
 // An input: what was read of it and not taken, from a place of its buffer to another; whether it
 // has ended; and whether it cannot be read.
-#[derive(Drop)]
+#[derive(Clone, Copy)]
 struct Source {
     fd: i32,
     from: usize,
@@ -109,7 +111,7 @@ impl Source {
 }
 
 // Where the judge and both inputs stand.
-#[derive(Drop)]
+#[derive(Clone, Copy)]
 struct Run {
     judge: Judge,
     day: Source,

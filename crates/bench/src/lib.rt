@@ -1,4 +1,6 @@
 // A day and a list of calls for the benchmark, exported for Rust to link.
+#![tactic(auto)]
+
 ghost use Rattle.std.specs.Prelude.{◌≡◌};
 ghost use Rattle.places.specs.Words.{servers_of};
 ghost use Rattle.frame.specs.Answers.{state_of};

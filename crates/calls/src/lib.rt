@@ -1,4 +1,6 @@
 // A whole list of calls on one channel, and demand 3 of the channel that it ends with.
+#![tactic(auto)]
+
 ghost use Rattle.std.specs.Prelude.{◌≡◌, ◌<◌, ◌≤◌, length};
 ghost use Rattle.group.specs.Calls.{outcome_of};
 ghost use Rattle.channel.specs.Answers.{state, Answers};
@@ -13,7 +15,7 @@ use refusal::{Refusal, Verdict};
 use roles::Verb;
 
 // The channel after the last call; where the list is refused, one with no server.
-#[derive(Drop)]
+#[derive(Clone, Copy)]
 pub struct Ended {
     pub verdict: Verdict,
     pub channel: Channel,

@@ -10,6 +10,8 @@
 // LENGTH is that of the lent slice. The answer to 1 and 2 is a number and how many servers the table
 // has; to the calls a number, how many bytes were written, how many bytes after them are as before,
 // the frame, a digit for the role of each server, and then what was written.
+#![tactic(auto)]
+
 ghost use Rattle.std.specs.Prelude.{◌≡◌, ◌+◌, ◌<◌, ◌≤◌, eqb, length, replicate};
 ghost use Rattle.lists.specs.Choice.{choose};
 ghost use Rattle.refusal.specs.Answer.{of_verdict};
@@ -30,14 +32,14 @@ use text::{NumberAnswer, Written};
 // ---- the numbers of a line
 
 // A number, and whether it is good.
-#[derive(Drop)]
+#[derive(Clone, Copy)]
 struct Arg {
     n: u64,
     good: bool,
 }
 
 // The four numbers after the first, and whether all of them are good.
-#[derive(Drop)]
+#[derive(Clone, Copy)]
 struct Args {
     x: u64,
     y: u64,
@@ -176,7 +178,7 @@ fn digit(role: Role) -> u8
 }
 
 // A digit for the role of each server: the first `count` of `digits`.
-#[derive(Drop)]
+#[derive(Clone, Copy)]
 struct Roles {
     digits: [u8; 16],
     count: usize,
@@ -297,7 +299,7 @@ fn say_call(verdict: Verdict, written: usize, channel: Channel, lent: &[u8]) {
 // ---- calls
 
 // What is asked of a channel.
-#[derive(Drop)]
+#[derive(Clone, Copy)]
 enum Call {
     Act(Verb, u16, u16),
     Frame,
@@ -355,7 +357,7 @@ fn answer(channel: Channel, call: Call, lent: &mut [u8]) -> Answer {
 // ---- the lines of a list
 
 // The table of a list, and the channel that its calls have led to, once there is one.
-#[derive(Drop)]
+#[derive(Clone, Copy)]
 struct State {
     table: Table,
     channel: Channel,
@@ -561,7 +563,7 @@ fn past(n: usize, end: usize) -> usize
 }
 
 // The state after a line, and where the next one begins.
-#[derive(Drop)]
+#[derive(Clone, Copy)]
 struct Turn {
     state: State,
     next: usize,

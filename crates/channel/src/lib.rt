@@ -1,5 +1,7 @@
 // A channel and its calls: the fresh channel, the eight verbs, the two advances, the advance within
 // a slice, and the line of a refusal.
+#![tactic(auto)]
+
 ghost use Rattle.std.specs.Prelude.{◌≡◌, Bool, ◌||◌, ◌+◌, ◌<◌, length};
 ghost use Rattle.text.specs.Write.{Writes};
 ghost use Rattle.lines.specs.Lines.{refused_line};
@@ -21,20 +23,20 @@ use text::Written;
 use timecode::Timecode;
 
 // A channel in a frame, with the calls on it.
-#[derive(Drop)]
+#[derive(Clone, Copy)]
 pub struct Channel {
     state: State,
 }
 
 // A fresh channel; where it is refused, one with no server.
-#[derive(Drop)]
+#[derive(Clone, Copy)]
 pub struct Opened {
     pub verdict: Verdict,
     pub channel: Channel,
 }
 
 // What a call answers: where it is refused, nothing written and the same channel.
-#[derive(Drop)]
+#[derive(Clone, Copy)]
 pub struct Answer {
     pub verdict: Verdict,
     pub written: usize,
@@ -42,7 +44,7 @@ pub struct Answer {
 }
 
 // What the advance within a slice answers: an answer, and how many frames it made.
-#[derive(Drop)]
+#[derive(Clone, Copy)]
 pub struct Within {
     pub verdict: Verdict,
     pub written: usize,

@@ -1,1 +1,2 @@
 // The day format and the sheet. So far its definitions only, in specs/.
+#![tactic(auto)]

@@ -1,4 +1,6 @@
 // Whether a sheet is that of a day, in one call on both.
+#![tactic(auto)]
+
 ghost use Rattle.std.specs.Prelude.{◌≡◌};
 ghost use Rattle.departure.specs.Departure.{judged};
 ghost use Rattle.dayjudge.specs.Steps.{found_in, Turns};
@@ -11,7 +13,7 @@ use judging::Judgement;
 use places::Packed;
 
 // How many bytes of the day and of the sheet were taken, and the judge then.
-#[derive(Drop)]
+#[derive(Clone, Copy)]
 struct Turned {
     day: usize,
     sheet: usize,

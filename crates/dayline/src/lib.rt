@@ -1,4 +1,6 @@
 // A line of a day, read.
+#![tactic(auto)]
+
 ghost use Rattle.std.specs.Prelude.{◌≡◌, [], ◌∷◌, length};
 ghost use Rattle.lists.specs.Choice.{choose};
 ghost use Rattle.lists.specs.Lists.{up_to, same};
@@ -19,7 +21,7 @@ use timecode::{Timecode, TimecodeAnswer};
 
 // What a line says, or the refusal of one that says nothing. A verb of one identity has 0 as the
 // second.
-#[derive(Drop)]
+#[derive(Clone, Copy)]
 pub enum DayLine {
     Wrong(Refusal),
     Period(u32),
@@ -37,7 +39,7 @@ pub enum DayLine {
 }
 
 // A word that may be a verb.
-#[derive(Drop)]
+#[derive(Clone, Copy)]
 enum Named {
     Called(Verb),
     Unknown,

@@ -1,4 +1,6 @@
 // The sheet of a whole day, in one call.
+#![tactic(auto)]
+
 ghost use Rattle.std.specs.Prelude.{◌≡◌, ◌≤◌, leb, length};
 ghost use Rattle.text.specs.Write.{Writes};
 ghost use Rattle.day.specs.Sheet.{sheet};
@@ -11,7 +13,7 @@ use refusal::Refusal;
 use text::Written;
 
 // Whether bytes fit into what is left, and what is left then.
-#[derive(Drop)]
+#[derive(Clone, Copy)]
 struct Spent {
     fits: bool,
     left: usize,

@@ -109,6 +109,7 @@ at-apart : (k : ℕ) (ds gs : List (List ℕ)) → Apart ds gs → departs_from 
 unfolding departs_from
 at-apart k (d ∷ ds) [] missing = refl
 at-apart k [] (g ∷ gs) surplus = refl
+at-apart k [] [] x'' = elim x'' [ ]
 at-apart k (d ∷ ds) (g ∷ gs) (differ h) = line_other k d g ds gs (refuted (same d g) (λ e. h (same-equal d g e)))
 
 at_before : (k : ℕ) (ls ds gs : List (List ℕ)) → Apart ds gs → departs_from k (ls ++ ds) (ls ++ gs) ≡ At (k + length ls)

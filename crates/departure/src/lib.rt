@@ -1,4 +1,6 @@
 // Where a sheet departs from the one that is due, and the comparison of bytes by which it is found.
+#![tactic(auto)]
+
 ghost use Rattle.std.specs.Prelude.{◌≡◌, ◌+◌, ◌≤◌, length};
 ghost use Rattle.departure.specs.Answers.{Compares};
 ghost use Rattle.departure.specs.Compare.{line_end};
@@ -6,7 +8,7 @@ ghost use Rattle.departure.specs.Departure.{line_number};
 ghost use Rattle.departure.specs.Steps.{alike, Comparing, Counts};
 
 // The same, or the number of the first line that departs; the header's is 1.
-#[derive(Drop)]
+#[derive(Clone, Copy)]
 pub enum Departure {
     Same,
     At(u64),
@@ -26,7 +28,7 @@ impl Departure {
 
 // Whether two bytes at the same place differ, how many are equal before, and how many lines these
 // end.
-#[derive(Drop)]
+#[derive(Clone, Copy)]
 pub struct Compared {
     pub departed: bool,
     pub bytes: usize,
@@ -54,14 +56,14 @@ fn alike(x: u8, y: u8) -> u8
 }
 
 // How many bytes of a block are equal, and how many lines those due end.
-#[derive(Drop)]
+#[derive(Clone, Copy)]
 struct Counted {
     equal: u8,
     lines: u8,
 }
 
 // How many bytes before the first block that differs, and how many lines they end.
-#[derive(Drop)]
+#[derive(Clone, Copy)]
 struct Skipped {
     bytes: usize,
     lines: usize,

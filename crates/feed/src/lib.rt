@@ -1,5 +1,7 @@
 // A day fed in pieces, and its sheet line by line. The line under way, the servers' numbers and the
 // links are lent, and changed in place.
+#![tactic(auto)]
+
 ghost use Rattle.std.specs.Prelude.{◌≡◌, true, [], ◌-◌, ◌≤◌, ◌<◌, length, take};
 ghost use Rattle.refusal.specs.Answer.{of_verdict, number_of};
 ghost use Rattle.text.specs.Write.{Writes};
@@ -27,7 +29,7 @@ use server::Server;
 use text::{Line, Written};
 
 // Which lines have come.
-#[derive(Drop)]
+#[derive(Clone, Copy)]
 pub enum Stage {
     AtPeriod,
     AtServers,
@@ -38,7 +40,7 @@ pub enum Stage {
 // Where a day stands: whether its sheet is over; the number of the line under way, and how many
 // bytes of it are there; which lines have come; the frame and the period. The rest is lent: the
 // line's bytes, the servers as numbers (`places`), the links.
-#[derive(Drop)]
+#[derive(Clone, Copy)]
 pub struct Feed {
     over: bool,
     number: u32,
@@ -49,7 +51,7 @@ pub struct Feed {
 }
 
 // How many bytes of a piece were taken.
-#[derive(Drop)]
+#[derive(Clone, Copy)]
 pub struct Taken {
     pub used: usize,
     pub feed: Feed,
@@ -57,7 +59,7 @@ pub struct Taken {
 
 // How many bytes were written, and the feed afterwards; 9 where the slice is too short, and then
 // the feed as it was, or for `begin` one that has printed no header.
-#[derive(Drop)]
+#[derive(Clone, Copy)]
 pub struct Step {
     pub written: Written,
     pub feed: Feed,
@@ -119,7 +121,7 @@ fn is_whole(line: &[u8], n: usize) -> bool
 }
 
 // A line with bytes of a piece in it.
-#[derive(Drop)]
+#[derive(Clone, Copy)]
 struct Filled {
     line: [u8; Feed::LINE],
     used: usize,

@@ -1,4 +1,6 @@
 // One frame, on servers as numbers: what they hear, their timers, and the lines of it.
+#![tactic(auto)]
+
 ghost use Rattle.std.specs.Prelude.{◌≡◌, Bool, ◌||◌, [], ◌∷◌, ◌+◌, ◌<◌, ◌≤◌, leb, eqb, length, replicate, take, get_or, set};
 ghost use Rattle.lists.specs.Choice.{choose};
 ghost use Rattle.lists.specs.Lists.{every, map_from};
@@ -34,7 +36,7 @@ fn say_event(out: &mut [u8], wet: bool, at: usize, frame: u32, identity: u16, ev
 // ---- hearing
 
 // A server, and the place after what it said.
-#[derive(Drop)]
+#[derive(Clone, Copy)]
 struct Told {
     server: Server,
     at: usize,
@@ -610,7 +612,7 @@ fn turn_of(
 }
 
 // The servers after a frame, and the place after what they said.
-#[derive(Drop)]
+#[derive(Clone, Copy)]
 struct AfterFrame {
     servers: Servers,
     at: usize,
@@ -902,7 +904,7 @@ fn frame_fits(
 
 // What came of a frame: the place after its lines; or that they do not fit or there is no next
 // frame, and nothing happened.
-#[derive(Drop)]
+#[derive(Clone, Copy)]
 pub struct Fared {
     pub at: usize,
     pub full: bool,

@@ -1,5 +1,7 @@
 // Frames one after another: those in which nothing happens are jumped over, and beats of a calm
 // group come many at a time.
+#![tactic(auto)]
+
 ghost use Rattle.std.specs.Prelude.{◌≡◌, Bool, ◌+◌, ◌-◌, ◌<◌, ◌≤◌, leb, ltb, length, get_or, set};
 ghost use Rattle.lists.specs.Choice.{choose};
 ghost use Rattle.lists.specs.Lists.{map_from};
@@ -114,7 +116,7 @@ fn nobody_sent(words: &Packed) -> bool
 // ---- many frames
 
 // The frame reached, and the place after the lines that led there.
-#[derive(Drop)]
+#[derive(Clone, Copy)]
 struct Reached {
     frame: u32,
     at: usize,
@@ -199,7 +201,7 @@ fn count_all(
 
 // The frame reached, the place after the lines that led there, and whether the next frame's lines
 // do not fit.
-#[derive(Drop)]
+#[derive(Clone, Copy)]
 struct Stretched {
     frame: u32,
     at: usize,
@@ -321,7 +323,7 @@ fn calm(words: &Packed, whole: &Links, period: Period, silent: bool, frame: u32)
 }
 
 // The frame of the next beat, and the place after the lines of those before it.
-#[derive(Drop)]
+#[derive(Clone, Copy)]
 struct Pulse {
     next: u64,
     at: usize,
@@ -463,7 +465,7 @@ fn play_within(
 
 // What an advance answers: where it is refused, nothing written, the same frame and the same
 // numbers.
-#[derive(Drop)]
+#[derive(Clone, Copy)]
 pub struct Advance {
     pub verdict: Verdict,
     pub written: usize,
@@ -504,7 +506,7 @@ pub fn run(
 
 // What an advance in place answers: where it is refused, nothing written, the same frame and the
 // same numbers.
-#[derive(Drop)]
+#[derive(Clone, Copy)]
 pub struct Ran {
     pub verdict: Verdict,
     pub written: usize,

@@ -1,4 +1,6 @@
 // What a playout server holds, and moves on in place from frame to frame.
+#![tactic(auto)]
+
 ghost use Rattle.std.specs.Prelude.{◌≡◌};
 ghost use Rattle.front.specs.Front.{with_server, FrontBegins, hearing, FrontHears, timing, FrontTicks, FrontActs};
 ghost use Rattle.front.specs.Laws.{FrontNew};
@@ -11,7 +13,7 @@ use server::Server;
 use timecode::Timecode;
 
 // One server, the present frame, and the period of its channel.
-#[derive(Drop)]
+#[derive(Clone, Copy)]
 pub struct Front {
     pub server: Server,
     pub frame: u32,
@@ -19,21 +21,21 @@ pub struct Front {
 }
 
 // A front, or 2.
-#[derive(Drop)]
+#[derive(Clone, Copy)]
 pub enum FrontAnswer {
     Is(Front),
     Refused(Refusal),
 }
 
 // What happened on hearing, and the role afterwards.
-#[derive(Drop)]
+#[derive(Clone, Copy)]
 pub struct HeardNow {
     pub event: Event,
     pub role: Role,
 }
 
 // What each timer did, in their order, and the role afterwards.
-#[derive(Drop)]
+#[derive(Clone, Copy)]
 pub struct TimedNow {
     pub silent: Event,
     pub beating: Event,
@@ -42,7 +44,7 @@ pub struct TimedNow {
 }
 
 // Whether the verb is accepted, what happened, and the role afterwards.
-#[derive(Drop)]
+#[derive(Clone, Copy)]
 pub struct ActedNow {
     pub verdict: Verdict,
     pub event: Event,
@@ -50,25 +52,25 @@ pub struct ActedNow {
 }
 
 // A front after a step, and the step's answer.
-#[derive(Drop)]
+#[derive(Clone, Copy)]
 pub struct AfterBegin {
     pub front: Front,
     pub answer: Verdict,
 }
 
-#[derive(Drop)]
+#[derive(Clone, Copy)]
 pub struct AfterHearing {
     pub front: Front,
     pub answer: HeardNow,
 }
 
-#[derive(Drop)]
+#[derive(Clone, Copy)]
 pub struct AfterTimers {
     pub front: Front,
     pub answer: TimedNow,
 }
 
-#[derive(Drop)]
+#[derive(Clone, Copy)]
 pub struct AfterVerb {
     pub front: Front,
     pub answer: ActedNow,

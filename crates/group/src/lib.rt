@@ -1,4 +1,6 @@
 // The group of a channel: its table of servers, and its state in a frame.
+#![tactic(auto)]
+
 ghost use Rattle.std.specs.Prelude.{◌≡◌, Bool, ◌*◌, ◌≤◌, replicate};
 ghost use Rattle.lists.specs.Choice.{choose};
 ghost use Rattle.lists.specs.Lists.{every};
@@ -20,13 +22,13 @@ pub type Links = [bool; Table::LINKS];
 
 // The servers of a channel in rising identity; empty places, of identity 0, come last. Made by
 // `empty` and `add`; `of` takes the servers of one that they made.
-#[derive(Drop)]
+#[derive(Clone, Copy)]
 pub struct Table {
     servers: Servers,
 }
 
 // A channel's state in a frame.
-#[derive(Drop)]
+#[derive(Clone, Copy)]
 pub struct State {
     pub frame: u32,
     pub period: Period,
@@ -35,14 +37,14 @@ pub struct State {
 }
 
 // A table after a server is added, or the same one.
-#[derive(Drop)]
+#[derive(Clone, Copy)]
 pub struct Added {
     pub verdict: Verdict,
     pub table: Table,
 }
 
 // A fresh channel; where it is refused, one with no server.
-#[derive(Drop)]
+#[derive(Clone, Copy)]
 pub struct Opened {
     pub verdict: Verdict,
     pub state: State,

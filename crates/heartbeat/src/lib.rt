@@ -1,4 +1,6 @@
 // The heartbeat, which of two senders is higher, and the heartbeat's line.
+#![tactic(auto)]
+
 ghost use Rattle.std.specs.Prelude.{◌≡◌, [], ◌∷◌, length};
 ghost use Rattle.refusal.specs.Answer.{accepted, in_turn};
 ghost use Rattle.text.specs.Number.{of_number};
@@ -13,14 +15,14 @@ use refusal::Refusal;
 use text::{Line, LineAnswer, NumberAnswer, Written};
 
 // What makes one server higher than another: its priority, then its identity.
-#[derive(Drop)]
+#[derive(Clone, Copy)]
 pub struct Rank {
     pub priority: u8,
     pub identity: u16,
 }
 
 // The four fields of Table I; bs is BecomeSupervised.
-#[derive(Drop)]
+#[derive(Clone, Copy)]
 pub struct Heartbeat {
     pub bs: u16,
     pub priority: u8,
@@ -29,7 +31,7 @@ pub struct Heartbeat {
 }
 
 // A heartbeat, or 1 or 2.
-#[derive(Drop)]
+#[derive(Clone, Copy)]
 pub enum HeartbeatAnswer {
     Is(Heartbeat),
     Refused(Refusal),

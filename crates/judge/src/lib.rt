@@ -1,6 +1,8 @@
 // A day and a sheet in pieces: whether the sheet is the day's, or at which line it departs. The
 // line under way of the day, the servers' numbers, the links and the bytes due are lent, and
 // changed in place.
+#![tactic(auto)]
+
 ghost use Rattle.std.specs.Prelude.{◌≡◌, ◌+◌, ◌-◌, ◌≤◌, ◌<◌, not};
 ghost use Rattle.feeding.specs.Bound.{step_bytes};
 ghost use Rattle.judging.specs.Bounds.{sheet_limit};
@@ -15,7 +17,7 @@ use places::Packed;
 
 // Where a day and a sheet stand: the day; the bytes due that the sheet has not come to, which are
 // lent, from a place to another; how many lines were as due; and the judgement.
-#[derive(Drop)]
+#[derive(Clone, Copy)]
 pub struct Judge {
     feed: Feed,
     from: usize,
@@ -26,7 +28,7 @@ pub struct Judge {
 
 // How many bytes of a piece were taken, and the judge then. Those that were not are to be given
 // again, with what follows them.
-#[derive(Drop)]
+#[derive(Clone, Copy)]
 pub struct Given {
     pub used: usize,
     pub judge: Judge,

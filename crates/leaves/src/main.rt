@@ -1,5 +1,7 @@
 // Asks the leaf functions the cases of the file `cases` and prints an answer line for each. The
 // head of make.py tells the forms of a case and of its answer.
+#![tactic(auto)]
+
 ghost use Rattle.std.specs.Prelude.{◌<◌, ◌≤◌, length};
 
 use heartbeat::{Heartbeat, HeartbeatAnswer, Rank};
@@ -11,7 +13,7 @@ use timecode::{Timecode, TimecodeAnswer};
 // ---- the fields of a case
 
 // A number of a case, and whether it and those before it are good.
-#[derive(Drop)]
+#[derive(Clone, Copy)]
 struct Arg {
     n: u64,
     good: bool,

@@ -1,4 +1,6 @@
 // The sheet's lines about servers, written or only counted.
+#![tactic(auto)]
+
 ghost use Rattle.std.specs.Prelude.{◌≡◌, true, ◌++◌, ◌+◌, ◌^◌, ◌≤◌, ◌<◌, length};
 ghost use Rattle.lists.specs.Choice.{choose};
 ghost use Rattle.text.specs.Digits.{digits};

@@ -1,4 +1,6 @@
 // The period of a channel, and the limits that it sets.
+#![tactic(auto)]
+
 ghost use Rattle.std.specs.Prelude.{◌≡◌};
 ghost use Rattle.periods.specs.Period.{of_period, take_period, shortest, beat_limit, silence_limit, prospect_limit};
 
@@ -6,13 +8,13 @@ use refusal::Refusal;
 
 // The period of a channel, in frames. `Period::of` and `Period::shortest` make it; no other crate
 // can by itself.
-#[derive(Drop)]
+#[derive(Clone, Copy)]
 pub struct Period {
     frames: u8,
 }
 
 // A period, or 2.
-#[derive(Drop)]
+#[derive(Clone, Copy)]
 pub enum PeriodAnswer {
     Is(Period),
     Refused(Refusal),

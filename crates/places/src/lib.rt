@@ -1,4 +1,6 @@
 // Servers at their places, as numbers: which place hears which, and which comes first.
+#![tactic(auto)]
+
 ghost use Rattle.std.specs.Prelude.{◌≡◌, Bool, ◌<◌, length, get_or};
 ghost use Rattle.lists.specs.Choice.{choose};
 ghost use Rattle.server.specs.Server.{absent};
@@ -279,7 +281,7 @@ pub fn hears(whole: &Links, i: usize, j: usize) -> bool
 
 // The best so far of the places that come after the place last (16: none), and the least rank of a
 // place that comes before it.
-#[derive(Drop)]
+#[derive(Clone, Copy)]
 pub struct Best {
     pub place: usize,
     pub least: u64,

@@ -1,5 +1,7 @@
 // The engine's values as structs of plain integers, for a caller in C or Rust: what decodes, what
 // it stands for, and how a value is encoded.
+#![tactic(auto)]
+
 ghost use Rattle.std.specs.Prelude.{◌≡◌, map};
 ghost use Rattle.lists.specs.Lists.{every};
 ghost use Rattle.refusal.specs.Answer.{of_verdict};
@@ -19,7 +21,7 @@ use server::Server;
 // it sent in this frame: the identity passed to (0: none), how many plain beats, and a reveal (1)
 // or none (0). An empty place has identity 0.
 #[repr(C)]
-#[derive(Drop)]
+#[derive(Clone, Copy)]
 pub struct PlainServer {
     pub identity: u16,
     pub priority: u8,
@@ -34,7 +36,7 @@ pub struct PlainServer {
 
 // What a playout server holds: its server, the present frame, and the period in frames, 2 to 250.
 #[repr(C)]
-#[derive(Drop)]
+#[derive(Clone, Copy)]
 pub struct PlainFront {
     pub server: PlainServer,
     pub frame: u32,
@@ -44,7 +46,7 @@ pub struct PlainFront {
 // A heartbeat: who is to become primary (0: nobody), the sender's identity, 1 to 65,535, and
 // priority, and Reveal, which any number but 0 sets.
 #[repr(C)]
-#[derive(Drop)]
+#[derive(Clone, Copy)]
 pub struct PlainHeartbeat {
     pub bs: u16,
     pub tiebreaker: u16,
@@ -55,14 +57,14 @@ pub struct PlainHeartbeat {
 // The servers of a channel, in rising identity; empty places, of identity 0, come last. Made by
 // `playout_table_empty` and `playout_table_add`.
 #[repr(C)]
-#[derive(Drop)]
+#[derive(Clone, Copy)]
 pub struct PlainTable {
     pub servers: [PlainServer; Table::SERVERS],
 }
 
 // A channel in a frame. `whole` has the link from place i to place j at 16 * i + j: 1 whole, 0 cut.
 #[repr(C)]
-#[derive(Drop)]
+#[derive(Clone, Copy)]
 pub struct PlainChannel {
     pub frame: u32,
     pub period: u32,

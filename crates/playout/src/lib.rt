@@ -3,6 +3,8 @@
 // number (`playout_higher`, which has no number, takes any tiebreaker). A refused call changes
 // nothing that was lent, and hands back the table or channel that it would have moved on; what it
 // would have made is zeros.
+#![tactic(auto)]
+
 ghost use Rattle.std.specs.Prelude.{◌≡◌, ◌&&◌, [], ◌∷◌};
 ghost use Rattle.text.specs.Write.{of_written};
 ghost use Rattle.timecode.specs.Label.{label};
@@ -39,7 +41,7 @@ use timecode::{Timecode, TimecodeAnswer};
 
 // A front. `number` is 0 where it is accepted, else the refusal's, and the front is zeros.
 #[repr(C)]
-#[derive(Drop)]
+#[derive(Clone, Copy)]
 pub struct FrontMade {
     pub number: u32,
     pub front: PlainFront,
@@ -50,7 +52,7 @@ pub struct FrontMade {
 // lower, 5 beat, 6 to primary, 7 to sync, 8 to idle, 9 to down, 10 passed, 11 lower with a beat.
 // `role` is the role afterwards.
 #[repr(C)]
-#[derive(Drop)]
+#[derive(Clone, Copy)]
 pub struct FrontHeard {
     pub number: u32,
     pub event: u32,
@@ -61,7 +63,7 @@ pub struct FrontHeard {
 // timer, in this order, and the role afterwards. `number` is 0 where it is accepted, else the
 // refusal's, and the rest is 0.
 #[repr(C)]
-#[derive(Drop)]
+#[derive(Clone, Copy)]
 pub struct FrontTimed {
     pub number: u32,
     pub silent: u32,
@@ -73,7 +75,7 @@ pub struct FrontTimed {
 // What a verb did: its event, and the role afterwards. `number` is 0 where it is accepted, else the
 // refusal's, and the rest is 0.
 #[repr(C)]
-#[derive(Drop)]
+#[derive(Clone, Copy)]
 pub struct FrontActed {
     pub number: u32,
     pub event: u32,
@@ -83,7 +85,7 @@ pub struct FrontActed {
 // What an event sends: `count` is 1 where there is a heartbeat, else 0, and the heartbeat is zeros.
 // `number` is 0 where it is accepted, else the refusal's, and the rest is 0.
 #[repr(C)]
-#[derive(Drop)]
+#[derive(Clone, Copy)]
 pub struct Sending {
     pub number: u32,
     pub count: u32,
@@ -93,7 +95,7 @@ pub struct Sending {
 // What was written: so many bytes, from the slice's start. `number` is 0 where it is accepted, else
 // the refusal's, and then nothing is written.
 #[repr(C)]
-#[derive(Drop)]
+#[derive(Clone, Copy)]
 pub struct PlainWritten {
     pub number: u32,
     pub written: usize,
@@ -102,7 +104,7 @@ pub struct PlainWritten {
 // A heartbeat that was read. `number` is 0 where it is accepted, else the refusal's, and the
 // heartbeat is zeros.
 #[repr(C)]
-#[derive(Drop)]
+#[derive(Clone, Copy)]
 pub struct HeartbeatRead {
     pub number: u32,
     pub heartbeat: PlainHeartbeat,
@@ -111,7 +113,7 @@ pub struct HeartbeatRead {
 // A frame that was read. `number` is 0 where it is accepted, else the refusal's, and the frame is
 // 0.
 #[repr(C)]
-#[derive(Drop)]
+#[derive(Clone, Copy)]
 pub struct TimecodeRead {
     pub number: u32,
     pub frame: u32,
@@ -120,7 +122,7 @@ pub struct TimecodeRead {
 // A table after a server is added. `number` is 0 where it is accepted, else the refusal's, and the
 // table is the one handed in.
 #[repr(C)]
-#[derive(Drop)]
+#[derive(Clone, Copy)]
 pub struct TableAdded {
     pub number: u32,
     pub table: PlainTable,
@@ -129,7 +131,7 @@ pub struct TableAdded {
 // A fresh channel. `number` is 0 where it is accepted, else the refusal's, and the channel is
 // zeros.
 #[repr(C)]
-#[derive(Drop)]
+#[derive(Clone, Copy)]
 pub struct ChannelOpened {
     pub number: u32,
     pub channel: PlainChannel,
@@ -138,7 +140,7 @@ pub struct ChannelOpened {
 // A channel after a call, and how many bytes of lines it wrote. `number` is 0 where it is accepted,
 // else the refusal's; then nothing is written, and the channel is the one handed in.
 #[repr(C)]
-#[derive(Drop)]
+#[derive(Clone, Copy)]
 pub struct ChannelAnswered {
     pub number: u32,
     pub written: usize,
@@ -146,25 +148,25 @@ pub struct ChannelAnswered {
 }
 
 // A front after a step, and the step's answer.
-#[derive(Drop)]
+#[derive(Clone, Copy)]
 struct AfterBegin {
     front: PlainFront,
     answer: u32,
 }
 
-#[derive(Drop)]
+#[derive(Clone, Copy)]
 struct AfterHearing {
     front: PlainFront,
     answer: FrontHeard,
 }
 
-#[derive(Drop)]
+#[derive(Clone, Copy)]
 struct AfterTimers {
     front: PlainFront,
     answer: FrontTimed,
 }
 
-#[derive(Drop)]
+#[derive(Clone, Copy)]
 struct AfterVerb {
     front: PlainFront,
     answer: FrontActed,

@@ -44,11 +44,11 @@ pub record Running (f₀ : Fed) (l₀ s : List ℕ) (last : Bool) (d₀ : List �
 pub record Told (f₀ : Fed) (s : List ℕ) (last : Bool) (d₀ : List ℕ) (f : Fed) (i at : ℕ) (goes first tooShort : Bool) : Type 0 where
   pub fresh : first ≡ true → (f ≡ f₀) × (i ≡ 0) × (at ≡ 0)
   pub told : first ≡ false → tooShort ≡ short f₀ s last (length d₀)
-  pub goes_on_lem : goes ≡ true → tooShort ≡ false
+  pub goes_on : goes ≡ true → tooShort ≡ false
   pub ends : goes ≡ false → first ≡ false
 
 pub told-begins : (f : Fed) (s : List ℕ) (last : Bool) (d : List ℕ) → Told f s last d f 0 0 true true false
-told-begins f s last d = record { fresh = λ e. (refl, refl, refl); told = λ e. absurd (clash refl e); goes_on_lem = λ e. refl; ends = λ e. absurd (clash refl e) }
+told-begins f s last d = record { fresh = λ e. (refl, refl, refl); told = λ e. absurd (clash refl e); goes_on = λ e. refl; ends = λ e. absurd (clash refl e) }
 
 -- what is left to do
 unfoldable pub to_run : Fed → ℕ → Bool → ℕ
@@ -218,8 +218,8 @@ module _ {f₀ : Fed} {l₀ s : List ℕ} {last : Bool} {d₀ : List ℕ} {f : F
     pub told-turn : Told f₀ s last d₀ f' (i + r.used) (at + r.wrote) r.goes false (first && not r.fits)
     told-turn =
         on (tested first)
-        (λ b. let z = told-first b in let is = ap (λ (x : Bool). x && not r.fits) b in record { fresh = λ e. absurd (clash e refl); told = λ e. is ∙ z.0; goes_on_lem = λ e. is ∙ z.1 e; ends = λ e. refl })
-        (λ b. let is = ap (λ (x : Bool). x && not r.fits) b in record { fresh = λ e. absurd (clash e refl); told = λ e. is ∙ sym (k.goes_on g) ∙ k.told b; goes_on_lem = λ e. is; ends = λ e. refl })
+        (λ b. let z = told-first b in let is = ap (λ (x : Bool). x && not r.fits) b in record { fresh = λ e. absurd (clash e refl); told = λ e. is ∙ z.0; goes_on = λ e. is ∙ z.1 e; ends = λ e. refl })
+        (λ b. let is = ap (λ (x : Bool). x && not r.fits) b in record { fresh = λ e. absurd (clash e refl); told = λ e. is ∙ sym (k.goes_on g) ∙ k.told b; goes_on = λ e. is; ends = λ e. refl })
 
 pub run_ends : {f₀ : Fed} {l₀ s : List ℕ} {last : Bool} {d₀ : List ℕ} {f : Fed} {l d : List ℕ} {goes first : Bool} {r : Ran} → Running f₀ l₀ s last d₀ f l d r.used r.wrote goes → Told f₀ s last d₀ f r.used r.wrote goes first r.short → goes ≡ false → Runs f₀ s last d₀ r f d × (l ≡ (print f₀ s last (length d₀)).line l₀)
 run_ends {f₀} {l₀} {s} {last} {d₀} {f} {l} {d} {goes} {first} {r} v k e =

@@ -1,5 +1,7 @@
 // The sheet of a day that comes in pieces, printed as far as it is known and there is room: the
 // loop over a feed.
+#![tactic(auto)]
+
 ghost use Rattle.std.specs.Prelude.{◌≡◌, [], ◌∷◌};
 ghost use Rattle.lists.specs.Choice.{choose};
 ghost use Rattle.refusal.specs.Answer.{accepted, refused};
@@ -15,7 +17,7 @@ use text::Written;
 
 // How many bytes of the piece were taken, how many were written, and whether the sheet is over; 9
 // where the slice is too short for the next lines, and then the feed as it was.
-#[derive(Drop)]
+#[derive(Clone, Copy)]
 pub struct Printed {
     pub written: Written,
     pub used: usize,
@@ -24,7 +26,7 @@ pub struct Printed {
 }
 
 // A turn: whether it did anything, whether its lines fit, and what it took and wrote.
-#[derive(Drop)]
+#[derive(Clone, Copy)]
 struct Turned {
     goes: bool,
     fits: bool,
@@ -34,7 +36,7 @@ struct Turned {
 }
 
 // Turns: whether the slice is too short for the first, and what they took and wrote.
-#[derive(Drop)]
+#[derive(Clone, Copy)]
 struct Ran {
     short: bool,
     wrote: usize,
@@ -43,7 +45,7 @@ struct Ran {
 }
 
 // Whether lines fit, and how many bytes were written.
-#[derive(Drop)]
+#[derive(Clone, Copy)]
 struct Put {
     fits: bool,
     bytes: usize,

@@ -1,8 +1,10 @@
 // The numbers that a call is refused with: "From the input" and "From the state" of document 01.
+#![tactic(auto)]
+
 ghost use Rattle.std.specs.Prelude.{◌≡◌};
 ghost use Rattle.refusal.specs.Answer.{number_of};
 
-#[derive(Drop)]
+#[derive(Clone, Copy)]
 pub enum Refusal {
     // A line's form.
     Form,
@@ -37,7 +39,7 @@ pub enum Refusal {
 }
 
 // Whether a call is accepted.
-#[derive(Drop)]
+#[derive(Clone, Copy)]
 pub enum Verdict {
     Accepted,
     Refused(Refusal),

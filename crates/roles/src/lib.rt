@@ -1,5 +1,7 @@
 // The roles of a server, the verbs that may be entered of it and what happens to it: the table of
 // roles against verbs, and the words of the sheet.
+#![tactic(auto)]
+
 ghost use Rattle.std.specs.Prelude.{◌≡◌, ◌<◌, ◌≤◌};
 ghost use Rattle.refusal.specs.Answer.{number_of};
 ghost use Rattle.roles.specs.Roles.{role_number};
@@ -9,7 +11,7 @@ ghost use Rattle.roles.specs.Words.{said};
 use refusal::Refusal;
 
 // What a server is to its group.
-#[derive(Drop)]
+#[derive(Clone, Copy)]
 pub enum Role {
     Down,
     Idle,
@@ -20,7 +22,7 @@ pub enum Role {
 }
 
 // What happens to a server in a step.
-#[derive(Drop)]
+#[derive(Clone, Copy)]
 pub enum Event {
     Nothing,
     ToBackup,
@@ -38,7 +40,7 @@ pub enum Event {
 }
 
 // What may be entered of a server.
-#[derive(Drop)]
+#[derive(Clone, Copy)]
 pub enum Verb {
     Start,
     Ready,
@@ -51,7 +53,7 @@ pub enum Verb {
 }
 
 // What the sheet says.
-#[derive(Drop)]
+#[derive(Clone, Copy)]
 pub enum Word {
     Sync,
     Backup,
@@ -68,7 +70,7 @@ pub enum Word {
 }
 
 // The words of an event.
-#[derive(Drop)]
+#[derive(Clone, Copy)]
 pub enum Said {
     Nothing,
     One(Word),
@@ -76,7 +78,7 @@ pub enum Said {
 }
 
 // What a role allows a verb: the number of the role that is entered or kept, or 12, 13 or 14.
-#[derive(Drop)]
+#[derive(Clone, Copy)]
 pub enum Allowed {
     To(u8),
     Refused(Refusal),

@@ -1,4 +1,6 @@
 // One server: what it hears, what its timers do, what verbs make of it, what it sends.
+#![tactic(auto)]
+
 ghost use Rattle.std.specs.Prelude.{◌≡◌};
 ghost use Rattle.lists.specs.Choice.{choose};
 ghost use Rattle.roles.specs.Verbs.{enters};
@@ -14,7 +16,7 @@ use roles::{Allowed, Event, Role, Verb};
 
 // A timer is the frame it was set in. The last three fields are what was sent in this frame: plain
 // beats, a reveal, a pass (0: none). A place with no server has identity 0 and is down.
-#[derive(Drop)]
+#[derive(Clone, Copy)]
 pub struct Server {
     pub identity: u16,
     pub priority: u8,
@@ -28,21 +30,21 @@ pub struct Server {
 }
 
 // A new server, or an empty place.
-#[derive(Drop)]
+#[derive(Clone, Copy)]
 pub struct Made {
     pub verdict: Verdict,
     pub server: Server,
 }
 
 // A server after a heartbeat, and what happened.
-#[derive(Drop)]
+#[derive(Clone, Copy)]
 pub struct Heard {
     pub server: Server,
     pub event: Event,
 }
 
 // A server after the timers of a frame, and what each did, in their order.
-#[derive(Drop)]
+#[derive(Clone, Copy)]
 pub struct Timed {
     pub server: Server,
     pub silent: Event,
@@ -51,7 +53,7 @@ pub struct Timed {
 }
 
 // A server after a verb, and what happened; where the verb is refused, the same server and nothing.
-#[derive(Drop)]
+#[derive(Clone, Copy)]
 pub struct Acted {
     pub verdict: Verdict,
     pub server: Server,

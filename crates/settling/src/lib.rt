@@ -1,5 +1,7 @@
 // A channel settles: demand 3, of the definitions of the group. The theorem stands in the contract
 // of the figure.
+#![tactic(auto)]
+
 ghost use Rattle.settling.specs.Figure.{SettlingFrames};
 
 use periods::Period;

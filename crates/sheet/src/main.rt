@@ -3,6 +3,8 @@
 // What is printed is the printer's; this program only reads, calls it and writes. A proved loop has
 // to end, and nothing says that an input does, so each loop counts its turns down from a number
 // that no run uses up.
+#![tactic(auto)]
+
 ghost use Rattle.std.specs.Prelude.{◌≡◌, ◌*◌, ◌≤◌, length};
 ghost use Rattle.feeding.specs.Bound.{step_bytes};
 
@@ -14,14 +16,14 @@ use text::Written;
 
 // A day under way: where it stands, and whether it goes on: its sheet is not over, and all went
 // well so far.
-#[derive(Drop)]
+#[derive(Clone, Copy)]
 struct Run {
     feed: Feed,
     goes: bool,
 }
 
 // A call of the printer: how many bytes of the piece it took, and the day then.
-#[derive(Drop)]
+#[derive(Clone, Copy)]
 struct Call {
     used: usize,
     feed: Feed,

@@ -1,4 +1,6 @@
 // Numbers, fields and words: read from a slice, and written into a lent one.
+#![tactic(auto)]
+
 ghost use Rattle.std.specs.Prelude.{◌≡◌, true, false, ◌+◌, ◌≤◌, length};
 ghost use Rattle.lists.specs.Lists.{same, up_to};
 ghost use Rattle.text.specs.Digits.{digits};
@@ -10,27 +12,27 @@ ghost use Rattle.text.specs.Steps.{bad_start, read_from, read_digit, at_least};
 use refusal::Refusal;
 
 // A number read, or 2.
-#[derive(Drop)]
+#[derive(Clone, Copy)]
 pub enum NumberAnswer {
     Is(u64),
     Refused(Refusal),
 }
 
 // A line: how many bytes stand before its line feed.
-#[derive(Drop)]
+#[derive(Clone, Copy)]
 pub struct Line {
     pub length: usize,
 }
 
 // A line, or 1.
-#[derive(Drop)]
+#[derive(Clone, Copy)]
 pub enum LineAnswer {
     Is(Line),
     Refused(Refusal),
 }
 
 // The place after what was written, or a refusal.
-#[derive(Drop)]
+#[derive(Clone, Copy)]
 pub enum Written {
     To(usize),
     Refused(Refusal),

@@ -1,4 +1,6 @@
 // Timecodes: the frames of a day and their labels HH:MM:SS:FF.
+#![tactic(auto)]
+
 ghost use Rattle.std.specs.Prelude.{◌≡◌, ◌+◌, ◌<◌, length};
 ghost use Rattle.text.specs.Number.{is_digit};
 ghost use Rattle.text.specs.Write.{WritesIf};
@@ -12,13 +14,13 @@ use text::Written;
 
 // A frame of the day, by its number. `Timecode::of_frame` and `Timecode::read` make it; no other
 // crate can by itself.
-#[derive(Drop)]
+#[derive(Clone, Copy)]
 pub struct Timecode {
     frame: u32,
 }
 
 // A timecode, or 3.
-#[derive(Drop)]
+#[derive(Clone, Copy)]
 pub enum TimecodeAnswer {
     Is(Timecode),
     Refused(Refusal),

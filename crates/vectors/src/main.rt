@@ -14,6 +14,8 @@
 // bytes or the check, or that it is too long to build; of a pair the answer. So does the first of a
 // file that is not well written, and nothing after it is read. A last line for each file says how
 // many agree.
+#![tactic(auto)]
+
 ghost use Rattle.std.specs.Prelude.{◌≡◌, ◌+◌, ◌*◌, ◌%◌, ◌^◌, ◌<◌, ◌≤◌, length};
 ghost use Rattle.io.specs.Counts.{IsPrefixLen};
 ghost use Rattle.text.specs.Steps.{Pieces};
@@ -29,7 +31,7 @@ use text::{NumberAnswer, Written};
 
 // A number of the file, the place after it and what ends it, and whether it and those before it are
 // well written.
-#[derive(Drop)]
+#[derive(Clone, Copy)]
 struct Number {
     n: u64,
     at: usize,
@@ -95,7 +97,7 @@ impl Number {
 
 // The numbers of a day, the places after its line and after its bytes, and whether all the numbers
 // are well written.
-#[derive(Drop)]
+#[derive(Clone, Copy)]
 struct Line {
     head: usize,
     times: u64,
@@ -139,7 +141,7 @@ impl Line {
 
 // The numbers of a pair, the places after its line and after its bytes, and whether all the numbers
 // are well written.
-#[derive(Drop)]
+#[derive(Clone, Copy)]
 struct Pair {
     day: usize,
     sheet: usize,
@@ -216,7 +218,7 @@ fn build(day: &mut [u8], head: &[u8], times: u64, body: &[u8], tail: &[u8]) -> W
 }
 
 // What is found of a day or a pair: what differs first, or that the day is too long to be built.
-#[derive(Drop)]
+#[derive(Clone, Copy)]
 enum Found {
     Agrees,
     Length,
@@ -346,7 +348,7 @@ fn repeats(line: Line) -> u64
 
 // How far a file is read, how many of its days or pairs agree, how many have a repeated part, and
 // whether all are well written.
-#[derive(Drop)]
+#[derive(Clone, Copy)]
 struct Tally {
     at: usize,
     agree: u64,

@@ -7,8 +7,6 @@ use Prim.Native.Nat.{ℕ, ◌+◌, ◌%◌, ◌≤◌, ◌<◌}
 use native.Mathlib.Nat.{mod-eq_of_lt}
 use native.Mathlib.Omega.{arith}
 use borrow.Author.Tests.{ltb-true, lt-leb, eqb-true, eq-eqb, ne_eqb}
-use denote.Enum.Declared.{tag_of}
-use types.Run.{OneOf, miss}
 use lib.Dec.{eqb, ltb}
 use lib.ListN.{length, set}
 use lib.Seq.{set-get_or}
@@ -32,7 +30,6 @@ use Rattle.server.specs.Server.{after}
 use Rattle.roles.specs.Verbs.{paired, verb_happens}
 use Rattle.server.specs.Verbs.{verb_answer}
 use Rattle.roles.specs.Words.{said}
-use Rattle.roles.specs.contracts.Verb.{the_type}
 use Rattle.lines.specs.Lines.{lines_of, Says}
 use Rattle.frame.proofs.Writing.{says-out}
 use Rattle.frame.proofs.Telling.{within, beyond}
@@ -79,20 +76,18 @@ module _ {t b : ℕ} {s : Server} {n : Verdict} where
   mend_does w e = record { number = e ∙ swapped w 0 15; told = refl; server = nothing t s _; link = refl }
 
 -- the variants of the verbs of a server, by their numbers
-abbrev servers-verbs : List ℕ
-servers-verbs = 0 ∷ 1 ∷ 2 ∷ 3 ∷ 4 ∷ 5 ∷ []
 
 pub others_do :
-    {t b : ℕ} {s : Server} {w : Bool} (v : Verb) {r : Deed} → OneOf servers-verbs (tag_of the_type v) → of_verdict r.verdict ≡ (verb_answer v b s).number →
+    {t b : ℕ} {s : Server} {w : Bool} (v : Verb) {r : Deed} → (v ≡ Cut → ⊥) → (v ≡ Mend → ⊥) → of_verdict r.verdict ≡ (verb_answer v b s).number →
     r.said ≡ said (verb_happens v b (verb_answer v b s)) → r.server ≡ after t s (verb_happens v b (verb_answer v b s)) → r.link ≡ w → Does t v b s w r
-others_do Start h n e s l = record { number = n; told = e; server = s; link = l }
-others_do Ready h n e s l = record { number = n; told = e; server = s; link = l }
-others_do Unready h n e s l = record { number = n; told = e; server = s; link = l }
-others_do Pass h n e s l = record { number = n; told = e; server = s; link = l }
-others_do Crash h n e s l = record { number = n; told = e; server = s; link = l }
-others_do Restart h n e s l = record { number = n; told = e; server = s; link = l }
-others_do Cut h n e s l = absurd (miss servers-verbs 6 tt h)
-others_do Mend h n e s l = absurd (miss servers-verbs 7 tt h)
+others_do Start not_cut not_mend n e s l = record { number = n; told = e; server = s; link = l }
+others_do Ready not_cut not_mend n e s l = record { number = n; told = e; server = s; link = l }
+others_do Unready not_cut not_mend n e s l = record { number = n; told = e; server = s; link = l }
+others_do Pass not_cut not_mend n e s l = record { number = n; told = e; server = s; link = l }
+others_do Crash not_cut not_mend n e s l = record { number = n; told = e; server = s; link = l }
+others_do Restart not_cut not_mend n e s l = record { number = n; told = e; server = s; link = l }
+others_do Cut not_cut not_mend n e s l = absurd (not_cut refl)
+others_do Mend not_cut not_mend n e s l = absurd (not_mend refl)
 
 -- ---- lines said once
 

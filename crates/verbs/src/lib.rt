@@ -1,5 +1,7 @@
 // The eight verbs: on a channel's state by value, and on the numbers of its servers and its links
 // in place.
+#![tactic(auto)]
+
 ghost use Rattle.std.specs.Prelude.{◌≡◌, ◌<◌, set};
 ghost use Rattle.lists.specs.Choice.{choose};
 ghost use Rattle.refusal.specs.Answer.{of_verdict};
@@ -20,14 +22,14 @@ use roles::{Said, Verb, Word};
 use server::Server;
 
 // The verdict on a verb, and how many bytes it wrote.
-#[derive(Drop)]
+#[derive(Clone, Copy)]
 pub struct Acted {
     pub verdict: Verdict,
     pub written: usize,
 }
 
 // What a verb answers on a state: where it is refused, nothing written and the same state.
-#[derive(Drop)]
+#[derive(Clone, Copy)]
 pub struct Answered {
     pub verdict: Verdict,
     pub written: usize,
@@ -36,7 +38,7 @@ pub struct Answered {
 
 // What a verb would make of its server and of its link, and what the sheet says of it. Where it is
 // refused, only the verdict counts.
-#[derive(Drop)]
+#[derive(Clone, Copy)]
 struct Deed {
     verdict: Verdict,
     said: Said,
@@ -164,7 +166,7 @@ fn tell(verdict: Verdict, said: Said, frame: u32, identity: u16, out: &mut [u8])
 
 // The verdict on a verb, how many bytes it wrote, and what it makes of its server and of its link.
 // Where it is refused, these do not count.
-#[derive(Drop)]
+#[derive(Clone, Copy)]
 struct Made {
     verdict: Verdict,
     written: usize,

@@ -123,7 +123,7 @@ twin_hears m n (h ∷ hs) w =
     let g = n.front in
     let r = same-hearing f g w.front h in
     let one = twin_behind (hearing f h).front (hearing g h).front (hearing f h).answer.event (hearing g h).answer.event w r.0 r.1 in
-    let more = twin_hears _ _ hs one in
+    let more = twin_hears (behind m (hearing f h).front (hearing f h).answer.event) (behind n (hearing g h).front (hearing g h).answer.event) hs one in
     (more.0, ap₂ (λ (x y : List ℕ). x ++ y) (ap (event_lines (hearing f h).front) r.1 ∙ same_lines (hearing f h).front (hearing g h).front r.0 (hearing g h).answer.event) more.1)
 
 twin_ticks : (m n : Member) → Twin m n → Twin (ticks m) (ticks n) × (ticks_lines m.front ≡ ticks_lines n.front)

@@ -1,5 +1,7 @@
 // A group of playout servers wired by the protocol of docs/MAKERS.md is the channel, byte for byte.
 // The theorem stands in the contract of the number of the rules.
+#![tactic(auto)]
+
 ghost use Rattle.wiring.specs.Rules.{Rules, MostHeard};
 
 use group::Table;

@@ -1,0 +1,7 @@
+use mathlib.Core.Path.{refl}
+use Rattle.calls.proofs.Ending.{no_channel_is}
+use borrow.Author.Rules.{rules}
+use Rattle.calls.proofs.refused.Goals as goal
+
+pub returns : goal.returns
+returns c = record { verdict = refl; channel = no_channel_is c.fresh-opened.ensures.channel c.empty.ensures }

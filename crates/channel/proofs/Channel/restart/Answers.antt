@@ -1,0 +1,5 @@
+use borrow.Author.Rules.{rules}
+use Rattle.channel.proofs.Channel.restart.Goals as goal
+
+pub returns : goal.returns
+returns c = c.verb.ensures

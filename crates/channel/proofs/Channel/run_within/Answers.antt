@@ -1,0 +1,24 @@
+use mathlib.Core.Path.{refl}
+use lib.ListN.{length}
+use Rattle.group.specs.declared.State.{State}
+use Rattle.group.specs.Advance.{within_goes}
+use Rattle.channel.proofs.Answering.{answers-within, gives_of, gives_nothing, within-later, stays}
+use borrow.Author.Rules.{rules}
+use Rattle.channel.proofs.Channel.run_within.Goals as goal
+
+pub overflow_sub-result : goal.overflow_sub-result
+overflow_sub-result c =
+    let a = c.args in
+    within-later a.self.state a.target (gives_of a.self.state _ c.words_of-words.ensures.servers (λ (s : State). within_goes s a.target (length a.out.now)) c.run_within-ran.ensures.gives)
+
+pub returns-in-Accepted : goal.returns-in-Accepted
+returns-in-Accepted c =
+    let a = c.args in
+    let g = gives_of a.self.state _ c.words_of-words.ensures.servers (λ (s : State). within_goes s a.target (length a.out.now)) c.run_within-ran.ensures.gives in
+    rw (c.moved-channel.ensures, c.servers_of-after.ensures) (answers-within _ g refl)
+
+pub returns-in-Refused : goal.returns-in-Refused
+returns-in-Refused c =
+    let a = c.args in
+    let g = gives_of a.self.state _ c.words_of-words.ensures.servers (λ (s : State). within_goes s a.target (length a.out.now)) c.run_within-ran.ensures.gives in
+    stays a.self c.stays.ensures (gives_nothing g _ c.in-Refused.is)

@@ -1,0 +1,6 @@
+use Rattle.channel.proofs.Answering.{answers}
+use borrow.Author.Rules.{rules}
+use Rattle.channel.proofs.Channel.verb.Goals as goal
+
+pub returns : goal.returns
+returns c = answers _ c.next-next.ensures

@@ -1,0 +1,7 @@
+use mathlib.Core.Path.{ap₂}
+use mathlib.Core.Bool.{Bool, ◌||◌}
+use borrow.Author.Rules.{rules}
+use Rattle.channel.proofs.stirs.Goals as goal
+
+pub returns : goal.returns
+returns c = ap₂ (λ (x y : Bool). x || y) c.sent_any.ensures c.ticks.ensures

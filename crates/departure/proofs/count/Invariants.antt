@@ -1,0 +1,12 @@
+-- The loop's invariant: where all of the block so far are equal, it goes on after them.
+use Prim.Native.Nat.{◌+◌, ◌-◌}
+use native.Mathlib.Omega.{arith}
+use lib.ListN.{get_or}
+use Rattle.departure.proofs.Comparing.{Counting, count-begin, count_turn, count-end, alike-small}
+use Rattle.departure.proofs.count.Given as goal
+
+abbrev pub invariant-loop-i : goal.invariant-loop-i
+invariant-loop-i l = Counting l.due l.found l.at l.equal l.lines l.i
+
+abbrev pub decreases-loop-i : goal.decreases-loop-i
+decreases-loop-i l = 128 - l.i

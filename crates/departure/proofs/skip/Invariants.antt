@@ -1,0 +1,14 @@
+-- The loop's invariant: all before i are equal.
+use Prim.Native.Nat.{◌-◌}
+use native.Mathlib.Omega.{arith}
+use borrow.Author.Rules.{rules}
+use lib.ListN.{length}
+use Rattle.departure.specs.Steps.{Comparing}
+use Rattle.departure.proofs.Comparing.{begin, room_for}
+use Rattle.departure.proofs.skip.Given as goal
+
+abbrev pub invariant-loop-i : goal.invariant-loop-i
+invariant-loop-i l = Comparing l.due l.found l.lines l.i
+
+abbrev pub decreases-loop-i : goal.decreases-loop-i
+decreases-loop-i l = length l.due - l.i

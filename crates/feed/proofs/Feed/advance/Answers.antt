@@ -1,0 +1,35 @@
+use mathlib.Core.Path.{refl, ap}
+use Rattle.group.specs.declared.State.{State}
+use Rattle.day.specs.Day.{on, atEntries}
+use Rattle.places.proofs.Canonical.{becomes-keeps}
+use Rattle.feeding.specs.Fed.{Fed}
+use Rattle.feeding.proofs.Calling.{within-done, within-not}
+use Rattle.feed.specs.Answers.{channel_of, fed_of}
+use Rattle.feed.proofs.Leaving.{not-refused, made-entries, passes_same, passes_on}
+use Rattle.feed.proofs.Making.{makes-written, makes-refused}
+use borrow.Author.Rules.{rules}
+use Rattle.feed.proofs.Feed.advance.Goals as goal
+
+pub returns-in-Accepted : goal.returns-in-Accepted
+returns-in-Accepted c l =
+    let a = c.args in
+    let f = fed_of a.self l a.words.now a.whole.now in
+    let q = within-done (channel_of a.self a.words.now a.whole.now) a.time c.requires.0 c.run_within-ran.ensures.gives c.in-Accepted.is in
+    let g : State → Fed = λ s. record { over = f.over; number = f.number; line = f.line; day = on atEntries s } in
+    record {
+      makes = makes-written q.0 (ap g q.1);
+      passes = passes_on (becomes-keeps c.run_within-ran.ensures.words).form (λ s. absurd (c.requires.1 s)) made-entries refl refl refl;
+      same = λ i z. not-refused z;
+    }
+
+pub returns-in-Refused : goal.returns-in-Refused
+returns-in-Refused c l =
+    let a = c.args in
+    let ran = c.run_within-ran.ensures in
+    let v = c.in-Refused.is in
+    rw (ran.same _ v)
+    (record {
+      makes = makes-refused (within-not (channel_of a.self a.words.now a.whole.now) a.time c.requires.0 ran.gives v) refl;
+      passes = passes_same;
+      same = λ i z. (refl, refl, refl);
+    })

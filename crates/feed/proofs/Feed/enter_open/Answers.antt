@@ -1,0 +1,42 @@
+use mathlib.Core.Path.{refl, sym, ap, ◌∙◌}
+use mathlib.Core.List.{[]}
+use native.Mathlib.Omega.{arith}
+use lib.ListN.{length}
+use Rattle.refusal.specs.Answer.{of_verdict}
+use Rattle.refusal.proofs.Answers.{number-some}
+use Rattle.group.specs.declared.State.{State}
+use Rattle.day.specs.Read.{entry}
+use Rattle.day.specs.Day.{entry_effect}
+use Rattle.feeding.proofs.Placing.{placed_on, placed_not}
+use Rattle.feed.specs.Answers.{channel_of, fed_of}
+use Rattle.feed.proofs.Making.{does_as}
+use Rattle.feed.proofs.Staging.{open_made, open_channel}
+use borrow.Author.Rules.{rules}
+use Rattle.feed.proofs.Feed.enter_open.Goals as goal
+
+pub enter-requires : goal.enter-requires
+enter-requires c =
+    let a = c.args in
+    let k = a.whole.now in
+    (c.requires, open_made a.self.stage (channel_of a.self a.words.now k) (sym (c.open-verdict.ensures [] k) ∙ ap of_verdict c.in-Accepted.is))
+
+pub returns-in-Accepted : goal.returns-in-Accepted
+returns-in-Accepted c l =
+    let a = c.args in
+    let w = a.words.now in
+    let k = a.whole.now in
+    let f = fed_of a.self l w k in
+    let s = channel_of a.self w k in
+    let room = length a.out.now in
+    let z = sym (c.open-verdict.ensures l k) ∙ ap of_verdict c.in-Accepted.is in
+    does_as (placed_on f room (entry a.time a.verb a.a a.b) (λ (s : State). entry_effect s a.time a.verb a.a a.b) refl z (open_channel a.self.stage s z)) (c.enter.ensures l)
+
+pub returns-in-Refused : goal.returns-in-Refused
+returns-in-Refused c l =
+    let a = c.args in
+    let w = a.words.now in
+    let k = a.whole.now in
+    let f = fed_of a.self l w k in
+    let s = channel_of a.self w k in
+    let room = length a.out.now in
+    does_as (placed_not f room (entry a.time a.verb a.a a.b) (λ (s : State). entry_effect s a.time a.verb a.a a.b) refl (sym (c.open-verdict.ensures l k) ∙ ap of_verdict c.in-Refused.is) (λ z. omega (arith, number-some c.in-Refused.k))) (c.stop.ensures w k l)

@@ -1,0 +1,7 @@
+use mathlib.Core.Path.{ap}
+use mathlib.Core.Bool.{Bool, not, ◌&&◌}
+use borrow.Author.Rules.{rules}
+use Rattle.feed.proofs.Feed.waits.Goals as goal
+
+pub returns : goal.returns
+returns c w k = let a = c.args in ap (λ (t : Bool). not a.self.over && t) c.is_whole.ensures

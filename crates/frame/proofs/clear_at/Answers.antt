@@ -1,0 +1,19 @@
+use native.Mathlib.Omega.{arith}
+use Rattle.places.proofs.Words.{clear_is}
+use Rattle.places.proofs.Canonical.{clear_keeps}
+use Rattle.frame.proofs.clear_at.Goals as goal
+
+pub overflow_mul-words : goal.overflow_mul-words
+overflow_mul-words c = omega (arith, c.requires.1)
+
+pub overflow_add-words : goal.overflow_add-words
+overflow_add-words c = omega (arith, c.requires.1)
+
+pub offset_bounds-words-j : goal.offset_bounds-words-j
+offset_bounds-words-j c = omega (arith, c.requires.1)
+
+pub bounds-words-j : goal.bounds-words-j
+bounds-words-j c = omega (arith, c.requires.1, c.requires.0)
+
+pub returns : goal.returns
+returns c = let a = c.args in let p = c.requires in (clear_keeps a.j, clear_is a.words.now a.j 0 p.0 p.1)

@@ -1,0 +1,18 @@
+use mathlib.Core.Path.{sym, ap, ◌∙◌}
+use Prim.Native.Nat.{ℕ, ◌-◌}
+use native.Mathlib.Omega.{arith}
+use lib.ListN.{take}
+use lib.Seq.{get_or-take}
+use borrow.Author.Rules.{rules}
+use Rattle.lists.proofs.Cases.{not_so, not_some}
+use Rattle.lists.proofs.EachLoop.{Passed, test-begin, test-turn, test-fails, test-end}
+use Rattle.frame.specs.Steps.{Listed, higher_at}
+use Rattle.frame.proofs.Lookup.{long}
+use Rattle.frame.proofs.only_higher.Given as goal
+
+-- the first k places near are such senders
+abbrev pub invariant-loop-k : goal.invariant-loop-k
+invariant-loop-k l = Listed l.near l.m × Passed (higher_at l.ranks l.sendings l.own) (take l.m l.near) l.m l.k
+
+abbrev pub decreases-loop-k : goal.decreases-loop-k
+decreases-loop-k l = l.m - l.k

@@ -1,0 +1,27 @@
+use mathlib.Core.Path.{refl, subst, sym, ◌∙◌}
+use mathlib.Core.List.{List}
+use Prim.Native.Nat.{◌+◌, ◌-◌, ◌<◌}
+use native.Mathlib.Omega.{arith}
+use lib.ListN.{drop}
+use Rattle.lists.proofs.MapLoop.{Mapped}
+use Rattle.lists.proofs.MapLoop as map
+use Rattle.server.specs.declared.Server.{Server}
+use Rattle.server.specs.Server.{absent}
+use Rattle.places.specs.Words.{servers_of, Keeps}
+use Rattle.frame.specs.Steps.{ticked, tick_lines}
+use Rattle.places.proofs.Words.{long_of}
+use Rattle.places.proofs.Canonical.{keeps-all, keeps_then}
+use Rattle.frame.proofs.Writing.{Toward}
+use Rattle.frame.proofs.Writing as out
+use Rattle.frame.proofs.Frames.{ticks-more, ticks_as}
+use Rattle.frame.proofs.Still.{still-ticked, ticks-early}
+use Rattle.frame.proofs.tick_all.Given as goal
+
+abbrev pub invariant-loop-j : goal.invariant-loop-j
+invariant-loop-j l =
+    Keeps l.initial.words l.words
+    × (Mapped (ticked l.frame l.period) (servers_of l.initial.words) 16 l.j (servers_of l.words)
+    × Toward l.wet l.initial.out l.initial.r (tick_lines l.frame l.period (servers_of l.initial.words)) l.out l.r (tick_lines l.frame l.period (drop l.j (servers_of l.initial.words))))
+
+abbrev pub decreases-loop-j : goal.decreases-loop-j
+decreases-loop-j l = l.n - l.j

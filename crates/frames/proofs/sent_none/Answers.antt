@@ -1,0 +1,7 @@
+use native.Mathlib.Omega.{arith}
+use Rattle.places.proofs.Words.{unsent-at}
+use borrow.Author.Rules.{rules}
+use Rattle.frames.proofs.sent_none.Goals as goal
+
+pub returns : goal.returns
+returns c e = unsent-at c.args.words.now c.args.i c.requires e

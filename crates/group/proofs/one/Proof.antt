@@ -1,8 +1,0 @@
-use mathlib.Core.Path.{sym}
-use borrow.Author.Tests.{eq-eqb, ne_eqb}
-use Rattle.lists.proofs.Cases.{chosen, other}
-use Rattle.group.proofs.one.Statement.{statement}
-use Rattle.group.proofs.one.Tie as tie
-
-pub one_spec : {M : Type 1} → statement M
-one_spec = tie.close (tie.spec (λ c. sym (chosen _ (eq-eqb _ 0 c.if1.true))) (λ c. sym (other _ (ne_eqb _ 0 c.if1.false))))

@@ -1,0 +1,13 @@
+use mathlib.Core.Path.{ap, ◌∙◌}
+use borrow.Author.Rules.{rules}
+use Rattle.refusal.specs.declared.Verdict.TheVariants.{Refused}
+use Rattle.lists.specs.Choice.{choose}
+use Rattle.group.specs.declared.State.{State}
+use Rattle.group.specs.Table.{anew}
+use Rattle.group.proofs.unopened.Goals as goal
+
+pub returns : goal.returns
+unfolding anew choose
+returns c =
+    let k = c.args.k in
+    ap (λ (x : State). record { verdict = Refused k; state = x }) (c.open-state.ensures ∙ rw (c.empty-table.ensures, c.shortest.ensures))

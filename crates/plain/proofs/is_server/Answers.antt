@@ -1,0 +1,5 @@
+use borrow.Author.Rules.{rules}
+use Rattle.plain.proofs.is_server.Goals as goal
+
+pub returns : goal.returns
+returns c = rw c.is_bit.ensures

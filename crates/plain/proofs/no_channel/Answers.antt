@@ -1,0 +1,5 @@
+use borrow.Author.Rules.{rules}
+use Rattle.plain.proofs.no_channel.Goals as goal
+
+pub returns : goal.returns
+returns c = rw c.no_server-nobody.ensures

@@ -1,0 +1,5 @@
+use borrow.Author.Rules.{rules}
+use Rattle.plain.proofs.plain_table.Goals as goal
+
+pub returns : goal.returns
+returns c = rw (c.plain_servers-servers.ensures, c.servers.ensures)

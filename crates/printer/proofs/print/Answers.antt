@@ -1,0 +1,7 @@
+use mathlib.Core.List.{[]}
+use Rattle.printer.proofs.Answering.{answered_in}
+use borrow.Author.Rules.{rules}
+use Rattle.printer.proofs.print.Goals as goal
+
+pub returns : goal.returns
+returns c = answered_in c.run-ran.ensures c.answer-written.ensures (c.over.ensures [] [] [])

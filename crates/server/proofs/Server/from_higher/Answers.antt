@@ -1,0 +1,7 @@
+use mathlib.Core.Path.{ap₂, ◌∙◌}
+use Rattle.heartbeat.specs.Rank.{higher}
+use borrow.Author.Rules.{rules}
+use Rattle.server.proofs.Server.from_higher.Goals as goal
+
+pub returns : goal.returns
+returns c = c.higher.ensures ∙ ap₂ higher c.sender-sender.ensures c.rank-hearer.ensures

@@ -1,0 +1,11 @@
+use mathlib.Core.Path.{refl}
+use borrow.Author.Rules.{rules}
+use Rattle.text.proofs.Written.then_number.Goals as goal
+
+pub returns-in-To : goal.returns-in-To
+returns-in-To c =
+    rw c.in-To.is
+    (record { answer = c.write_number.ensures.writes.answer; slice = c.write_number.ensures.writes.slice })
+
+pub returns-in-Refused : goal.returns-in-Refused
+returns-in-Refused c = rw c.in-Refused.is (record { answer = refl; slice = refl })

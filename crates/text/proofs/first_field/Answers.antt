@@ -1,0 +1,17 @@
+use mathlib.Core.Path.{◌≡◌, ap, ◌∙◌}
+use Prim.Native.Nat.{ℕ, ◌-◌}
+use native.Mathlib.Omega.{arith}
+use borrow.Author.Rules.{rules}
+use lib.ListN.{take}
+use Rattle.lists.specs.Lists.{up_to}
+use Rattle.lists.proofs.Parts.{up_to_le, first_part}
+use Rattle.text.proofs.first_field.Goals as goal
+
+pub slice_bounds-result-end : goal.slice_bounds-result-end
+slice_bounds-result-end c = omega (arith, up_to_le 9 c.args.s.now, c.find-end.ensures)
+
+pub returns : goal.returns
+returns c =
+    let s = c.args.s.now in
+    let e : c.find-end.result - 0 ≡ up_to 9 s = omega (arith, c.find-end.ensures) in
+    ap (λ (n : ℕ). take n s) e ∙ first_part 9 s

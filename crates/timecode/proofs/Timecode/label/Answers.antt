@@ -1,0 +1,6 @@
+use borrow.Author.Rules.{rules}
+use Rattle.timecode.proofs.Trips.{trips}
+use Rattle.timecode.proofs.Timecode.label.Goals as goal
+
+pub returns : goal.returns
+returns c = record { label = c.label_of.ensures; trips = trips }
