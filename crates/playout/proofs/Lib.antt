@@ -1,4 +1,3 @@
-pub mod Types
 pub mod Choices
 pub mod Fronts
 pub mod Writings

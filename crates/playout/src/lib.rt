@@ -185,8 +185,7 @@ pub const VERSION: u32 = 2000;
 // compare theirs before they play; those whose numbers differ do not play together: half a group on
 // each side of a change of rules gives two sheets, and nobody notices. A program compares
 // `PLAYOUT_RULES`, what it was compiled against, with this, what it is linked with, at its start.
-#[unsafe(no_mangle)]
-pub extern "C" fn playout_rules() -> u32
+pub fn playout_rules() -> u32
     ensures { Rules result }
 {
     wiring::rules()
@@ -197,8 +196,7 @@ pub extern "C" fn playout_rules() -> u32
 // rises where something is added. Servers of different versions play together where their rules
 // have one number. A program compares `PLAYOUT_VERSION`, what it was compiled against, with this,
 // what it is linked with, at its start: the same major, and no lower minor.
-#[unsafe(no_mangle)]
-pub extern "C" fn playout_version() -> u32
+pub fn playout_version() -> u32
     ensures { result ≡ version_number }
 {
     VERSION
@@ -228,8 +226,7 @@ fn made_of(answer: FrontAnswer) -> FrontMade
 // process that comes up later in the day sets `front.frame` to the present frame, with a new front
 // only; in that frame it takes verbs only, and its first `playout_front_begin` is that of the next
 // frame. Refused with 2 (identity 0, or a period that is not 2 to 250).
-#[unsafe(no_mangle)]
-pub extern "C" fn playout_front_new(identity: u16, priority: u8, period: u32) -> FrontMade
+pub fn playout_front_new(identity: u16, priority: u8, period: u32) -> FrontMade
     ensures { result ≡ front_made identity priority period }
 {
     made_of(front::Front::new(identity, priority, period))
@@ -399,8 +396,7 @@ fn acted(front: PlainFront, verb: u32, to: u16) -> AfterVerb
 // goes on; one that cannot was down, and makes a new front. Gives 0, or the number that it is
 // refused with: 2 (the front does not decode), 16 (the front is at the day's last frame, or beyond
 // it).
-#[unsafe(no_mangle)]
-pub extern "C" fn playout_front_begin(front: &mut PlainFront) -> u32
+pub fn playout_front_begin(front: &mut PlainFront) -> u32
     ensures { Begins front.old result front.new }
 {
     let next = begun(*front);
@@ -412,11 +408,7 @@ pub extern "C" fn playout_front_begin(front: &mut PlainFront) -> u32
 // and those of the server itself: they are not refused, each sets a backup's silence timer as
 // another's would, and a backup that hears one in every frame never steps in. Gives the event and the role afterwards. Refused with 2 (the front
 // does not decode, or the heartbeat's tiebreaker is 0).
-#[unsafe(no_mangle)]
-pub extern "C" fn playout_front_hear(
-    front: &mut PlainFront,
-    heartbeat: PlainHeartbeat,
-) -> FrontHeard
+pub fn playout_front_hear(front: &mut PlainFront, heartbeat: PlainHeartbeat) -> FrontHeard
     ensures { Hears front.old heartbeat result front.new }
 {
     let next = heard(*front, heartbeat);
@@ -429,8 +421,7 @@ pub extern "C" fn playout_front_hear(
 // never steps in, a primary sends no beat any more, a prospect never goes on air, until something
 // sets the timer again. Gives their events and the role afterwards. Refused with 2 (the front does
 // not decode).
-#[unsafe(no_mangle)]
-pub extern "C" fn playout_front_tick(front: &mut PlainFront) -> FrontTimed
+pub fn playout_front_tick(front: &mut PlainFront) -> FrontTimed
     ensures { Ticks front.old result front.new }
 {
     let next = timed(*front);
@@ -443,8 +434,7 @@ pub extern "C" fn playout_front_tick(front: &mut PlainFront) -> FrontTimed
 // do nothing. Gives the event and the role afterwards. Refused with 2 (no such verb, an identity 0,
 // or the front does not decode), 8 (`to` is the front's own identity), 12 (the server is down), 13
 // (restart of a server that is up), 14 (the role does not allow the verb).
-#[unsafe(no_mangle)]
-pub extern "C" fn playout_front_act(front: &mut PlainFront, verb: u32, to: u16) -> FrontActed
+pub fn playout_front_act(front: &mut PlainFront, verb: u32, to: u16) -> FrontActed
     ensures { Acts front.old verb to result front.new }
 {
     let next = acted(*front, verb, to);
@@ -513,8 +503,7 @@ fn is_sent(event: u32, to: u16) -> bool
 
 // The heartbeat that an event of this front sends, if any. `to` is the identity passed to, for
 // event 10. Refused with 2 (no such event, event 10 with `to` 0, or the front does not decode).
-#[unsafe(no_mangle)]
-pub extern "C" fn playout_front_sends(front: PlainFront, event: u32, to: u16) -> Sending
+pub fn playout_front_sends(front: PlainFront, event: u32, to: u16) -> Sending
     ensures { result ≡ front_sends front event to }
 {
     if plain::is_front(front) & is_sent(event, to) {
@@ -574,8 +563,7 @@ fn write_lines(front: PlainFront, event: u32, out: &mut [u8]) -> PlainWritten
 // The sheet's lines of an event of this front, at its frame, into the slice. Gives how many bytes
 // were written. Refused with 2 (no such event, or the front does not decode), 9 (the slice is too
 // short).
-#[unsafe(no_mangle)]
-pub extern "C" fn playout_front_lines(front: PlainFront, event: u32, out: &mut [u8]) -> PlainWritten
+pub fn playout_front_lines(front: PlainFront, event: u32, out: &mut [u8]) -> PlainWritten
     ensures { PutsIf (is_front front && is_event event) ill out.old (front_lines front event) result out.new }
 {
     if plain::is_front(front) & plain::is_event(event) {
@@ -604,12 +592,7 @@ fn write_refused(frame: u32, identity: u16, number: u32, out: &mut [u8]) -> Plai
 // The sheet's line of a refused call of this front, at its frame, into the slice; `number` is the
 // refusal's. In a sheet only 11 to 16 have such a line. Gives how many bytes were written. Refused
 // with 2 (no such refusal, or the front does not decode), 9 (the slice is too short).
-#[unsafe(no_mangle)]
-pub extern "C" fn playout_front_refused(
-    front: PlainFront,
-    number: u32,
-    out: &mut [u8],
-) -> PlainWritten
+pub fn playout_front_refused(front: PlainFront, number: u32, out: &mut [u8]) -> PlainWritten
     ensures { PutsIf (is_front front && is_refusal number) ill out.old (refused_line front.frame front.server.identity (refusal_of number)) result out.new }
 {
     if plain::is_front(front) {
@@ -626,8 +609,7 @@ pub extern "C" fn playout_front_refused(
 // ---- heartbeats and timecodes
 
 // 1 where the sender of `a` is higher than that of `b`, else 0: by priority, then by identity.
-#[unsafe(no_mangle)]
-pub extern "C" fn playout_higher(a: PlainHeartbeat, b: PlainHeartbeat) -> u32
+pub fn playout_higher(a: PlainHeartbeat, b: PlainHeartbeat) -> u32
     ensures { result ≡ plain_higher a b }
 {
     let first = plain::heartbeat_of(a).sender();
@@ -658,8 +640,7 @@ fn heartbeat_read_of(answer: HeartbeatAnswer) -> HeartbeatRead
 
 // The heartbeat of one line, its line feed included. Refused with 1 (the line's form, or bytes
 // after the line feed), 2 (a number badly written or out of range).
-#[unsafe(no_mangle)]
-pub extern "C" fn playout_heartbeat_read(line: &[u8]) -> HeartbeatRead
+pub fn playout_heartbeat_read(line: &[u8]) -> HeartbeatRead
     ensures { result ≡ heartbeat_read (read_heartbeat line.now) }
 {
     heartbeat_read_of(Heartbeat::read(line))
@@ -667,8 +648,7 @@ pub extern "C" fn playout_heartbeat_read(line: &[u8]) -> HeartbeatRead
 
 // The line of a heartbeat, its line feed included, into the slice. Gives how many bytes were
 // written. Refused with 2 (the tiebreaker is 0), 9 (the slice is too short).
-#[unsafe(no_mangle)]
-pub extern "C" fn playout_heartbeat_write(heartbeat: PlainHeartbeat, out: &mut [u8]) -> PlainWritten
+pub fn playout_heartbeat_write(heartbeat: PlainHeartbeat, out: &mut [u8]) -> PlainWritten
     ensures { PutsIf (is_heartbeat heartbeat) ill out.old (heartbeat_line (heartbeat_of heartbeat)) result out.new }
 {
     written_of(plain::heartbeat_of(heartbeat).write(out, 0))
@@ -691,8 +671,7 @@ fn timecode_read_of(answer: TimecodeAnswer) -> TimecodeRead
 
 // The frame that a label HH:MM:SS:FF names, 25 frames to a second. Refused with 3 (badly written,
 // or outside the day).
-#[unsafe(no_mangle)]
-pub extern "C" fn playout_timecode_read(time: &[u8]) -> TimecodeRead
+pub fn playout_timecode_read(time: &[u8]) -> TimecodeRead
     ensures { result ≡ timecode_read (read_timecode time.now) }
 {
     timecode_read_of(Timecode::read(time))
@@ -700,8 +679,7 @@ pub extern "C" fn playout_timecode_read(time: &[u8]) -> TimecodeRead
 
 // The label of a frame, 11 bytes, into the slice. Gives how many bytes were written. Refused with 3
 // (outside the day), 9 (the slice is too short).
-#[unsafe(no_mangle)]
-pub extern "C" fn playout_timecode_write(frame: u32, out: &mut [u8]) -> PlainWritten
+pub fn playout_timecode_write(frame: u32, out: &mut [u8]) -> PlainWritten
     ensures { PutsIf (in_day frame) 3 out.old (label frame) result out.new }
 {
     match Timecode::of_frame(frame) {
@@ -713,8 +691,7 @@ pub extern "C" fn playout_timecode_write(frame: u32, out: &mut [u8]) -> PlainWri
 // ---- tables
 
 // The table of no server: where every table begins.
-#[unsafe(no_mangle)]
-pub extern "C" fn playout_table_empty() -> PlainTable
+pub fn playout_table_empty() -> PlainTable
     ensures { Empties result }
 {
     plain::plain_table(Table::empty())
@@ -735,8 +712,7 @@ fn adds(table: PlainTable, identity: u16, priority: u8) -> TableAdded
 // The table with a server more, of this identity and priority. Refused with 2 (identity 0, or no
 // table that `playout_table_empty` and this call made), 5 (the identity is in the table already), 6
 // (a seventeenth server).
-#[unsafe(no_mangle)]
-pub extern "C" fn playout_table_add(table: PlainTable, identity: u16, priority: u8) -> TableAdded
+pub fn playout_table_add(table: PlainTable, identity: u16, priority: u8) -> TableAdded
     ensures { Adds table identity priority result }
 {
     if plain::is_table(table) {
@@ -779,8 +755,7 @@ fn opens(table: PlainTable, period: u32) -> ChannelOpened
 // A channel of the table's servers at frame 0, all idle, with a period in frames. Refused with 2 (a
 // period that is not 2 to 250, or no table that `playout_table_empty` and `playout_table_add`
 // made), 6 (no server), 7 (a period below the number of servers).
-#[unsafe(no_mangle)]
-pub extern "C" fn playout_channel_fresh(table: PlainTable, period: u32) -> ChannelOpened
+pub fn playout_channel_fresh(table: PlainTable, period: u32) -> ChannelOpened
     ensures { Opens table period result }
 {
     if plain::is_table(table) {
@@ -822,8 +797,7 @@ fn unanswered(channel: PlainChannel) -> ChannelAnswered
 // The channel one frame on, and the frame's lines into the slice. Gives the channel and how many
 // bytes were written. Refused with 2 (the channel does not decode), 16 (it is at the day's last
 // frame, or beyond it), 9 (the slice is too short).
-#[unsafe(no_mangle)]
-pub extern "C" fn playout_channel_advance(channel: PlainChannel, out: &mut [u8]) -> ChannelAnswered
+pub fn playout_channel_advance(channel: PlainChannel, out: &mut [u8]) -> ChannelAnswered
     ensures { Answers (is_channel channel) channel (step_outcome (channel_of channel)) out.old result out.new }
 {
     if plain::is_channel(channel) {
@@ -836,8 +810,7 @@ pub extern "C" fn playout_channel_advance(channel: PlainChannel, out: &mut [u8])
 // The channel at a time, given as a frame, and the lines of all frames on the way into the slice.
 // Gives the channel and how many bytes were written. Refused with 2 (the channel does not decode),
 // 3 (outside the day), 11 (before the present frame), 9 (the slice is too short).
-#[unsafe(no_mangle)]
-pub extern "C" fn playout_channel_advance_to(
+pub fn playout_channel_advance_to(
     channel: PlainChannel,
     time: u32,
     out: &mut [u8],
@@ -858,8 +831,7 @@ pub extern "C" fn playout_channel_advance_to(
 // the table, or twice the same), 12 (the server is down), 13 (restart of a server that is up), 14
 // (the role does not allow the verb), 15 (cut of a cut link, mend of a whole one), 9 (the slice is
 // too short).
-#[unsafe(no_mangle)]
-pub extern "C" fn playout_channel_verb(
+pub fn playout_channel_verb(
     channel: PlainChannel,
     verb: u32,
     a: u16,
@@ -879,8 +851,7 @@ pub extern "C" fn playout_channel_verb(
 // first identity (0 for an end) and the refusal's number. In a sheet only 11 to 16 have such a
 // line. Gives how many bytes were written. Refused with 2 (no such refusal, or the channel does not
 // decode), 9 (the slice is too short).
-#[unsafe(no_mangle)]
-pub extern "C" fn playout_channel_refused(
+pub fn playout_channel_refused(
     channel: PlainChannel,
     identity: u16,
     number: u32,
@@ -902,8 +873,7 @@ pub extern "C" fn playout_channel_refused(
 
 // The sheet of a whole day, given as its lines, into the slice. Gives how many bytes were written;
 // a refused line of the day is told in the sheet. Refused with 9 (the slice is too short).
-#[unsafe(no_mangle)]
-pub extern "C" fn playout_sheet(day: &[u8], out: &mut [u8]) -> PlainWritten
+pub fn playout_sheet(day: &[u8], out: &mut [u8]) -> PlainWritten
     ensures { Puts out.old (sheet day.now) result out.new }
 {
     written_of(daysheet::sheet(day, out))
@@ -913,8 +883,7 @@ pub extern "C" fn playout_sheet(day: &[u8], out: &mut [u8]) -> PlainWritten
 // else the number of the first line that departs. Lines are compared by their places, each with its
 // line feed, and the header is line 1: a line that is missing counts at its place, and so does one
 // too many. The call is never refused; the sheet of a day that is refused ends with that refusal.
-#[unsafe(no_mangle)]
-pub extern "C" fn playout_departure(day: &[u8], sheet: &[u8]) -> u64
+pub fn playout_departure(day: &[u8], sheet: &[u8]) -> u64
     ensures { result ≡ line_number (judged day.now sheet.now) }
 {
     let departure = dayjudge::departure(day, sheet);

@@ -1,0 +1,8 @@
+use borrow.Author.Rules.{rules}
+use Rattle.playout.proofs.heartbeat_read_of.Goals as goal
+
+pub returns-in-Is : goal.returns-in-Is
+returns-in-Is c = rw (c.in-Is.is, c.plain_heartbeat-heartbeat.ensures)
+
+pub returns-in-Refused : goal.returns-in-Refused
+returns-in-Refused c = rw (c.in-Refused.is, c.number.ensures, c.no_heartbeat-heartbeat.ensures)

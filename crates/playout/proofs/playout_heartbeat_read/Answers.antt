@@ -1,0 +1,7 @@
+use mathlib.Core.Path.{ap, ◌∙◌}
+use Rattle.playout.specs.Writing.{heartbeat_read}
+use borrow.Author.Rules.{rules}
+use Rattle.playout.proofs.playout_heartbeat_read.Goals as goal
+
+pub returns : goal.returns
+returns c = c.heartbeat_read_of.ensures ∙ ap heartbeat_read c.read.ensures

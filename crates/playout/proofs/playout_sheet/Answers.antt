@@ -1,0 +1,6 @@
+use Rattle.playout.proofs.Writings.{puts}
+use borrow.Author.Rules.{rules}
+use Rattle.playout.proofs.playout_sheet.Goals as goal
+
+pub returns : goal.returns
+returns c = puts c.sheet.ensures c.written_of.ensures

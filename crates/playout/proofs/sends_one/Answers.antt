@@ -1,0 +1,5 @@
+use borrow.Author.Rules.{rules}
+use Rattle.playout.proofs.sends_one.Goals as goal
+
+pub returns : goal.returns
+returns c = rw c.plain_heartbeat-heartbeat.ensures

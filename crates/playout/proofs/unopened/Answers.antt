@@ -1,0 +1,5 @@
+use borrow.Author.Rules.{rules}
+use Rattle.playout.proofs.unopened.Goals as goal
+
+pub returns : goal.returns
+returns c = rw c.no_channel-channel.ensures
