@@ -1,5 +1,4 @@
 use Rattle.bench.proofs.Running.{calls-end}
-use borrow.Author.Rules.{rules}
 use Rattle.bench.proofs.bench_calls.Goals as goal
 
 pub returns : goal.returns

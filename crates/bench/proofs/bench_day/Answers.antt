@@ -3,7 +3,6 @@ use mathlib.Core.Path.{ap, ◌∙◌}
 use Rattle.server.specs.declared.Server.{Server}
 use Rattle.frame.specs.Answers.{state_of}
 use Rattle.bench.proofs.Running.{day-ends}
-use borrow.Author.Rules.{rules}
 use Rattle.bench.proofs.bench_day.Goals as goal
 
 pub returns : goal.returns

@@ -1,11 +1,6 @@
-use mathlib.Core.Path.{◌≡◌, refl, ◌∙◌}
+use mathlib.Core.Path.{refl, ◌∙◌}
 use Prim.Native.Nat.{◌-◌}
-use native.Mathlib.Omega.{arith}
-use lib.ListN.{length}
-use Rattle.places.specs.Words.{servers_of}
-use Rattle.frame.specs.Answers.{state_of}
-use Rattle.bench.proofs.Running.{Running, run_begin, run_turn, run_end}
-use borrow.Author.Rules.{rules}
+use Rattle.bench.proofs.Running.{run_begin, run_turn, run_end}
 use Rattle.bench.proofs.day.Goals as goal
 
 pub loop-i-init : goal.loop-i-init

@@ -1,11 +1,9 @@
-use mathlib.Core.Path.{◌≡◌, refl, ◌∙◌}
+use mathlib.Core.Path.{◌≡◌}
 use Prim.Native.Nat.{◌-◌}
-use native.Mathlib.Omega.{arith}
 use lib.ListN.{length}
 use Rattle.places.specs.Words.{servers_of}
 use Rattle.frame.specs.Answers.{state_of}
-use Rattle.bench.proofs.Running.{Running, run_begin, run_turn, run_end}
-use borrow.Author.Rules.{rules}
+use Rattle.bench.proofs.Running.{Running}
 use Rattle.bench.proofs.day.Given as goal
 
 abbrev pub invariant-loop-i : goal.invariant-loop-i

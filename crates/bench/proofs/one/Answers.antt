@@ -1,6 +1,5 @@
 use mathlib.Core.Path.{sym, ap, ◌∙◌}
 use Prim.Native.Nat.{◌/◌, ◌%◌}
-use native.Mathlib.Omega.{arith}
 use borrow.Author.Tests.{lt-ltb, le-ltb}
 use Rattle.lists.proofs.Cases.{chosen, other}
 use Rattle.roles.specs.declared.Verb.{Verb}
@@ -9,7 +8,6 @@ use Rattle.places.specs.Words.{servers_of}
 use Rattle.frame.specs.Answers.{state_of}
 use Rattle.bench.specs.Bench.{step_of}
 use Rattle.bench.proofs.Running.{one-step}
-use borrow.Author.Rules.{rules}
 use Rattle.bench.proofs.one.Goals as goal
 
 pub returns-then-kind-lt8 : goal.returns-then-kind-lt8

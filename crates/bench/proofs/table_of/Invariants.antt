@@ -1,8 +1,6 @@
 use Prim.Native.Nat.{◌-◌, ◌/◌}
-use native.Mathlib.Omega.{arith}
 use lib.ListN.{length}
-use Rattle.bench.proofs.Listing.{Listing, list_begin, list_turn, list_end}
-use borrow.Author.Rules.{rules}
+use Rattle.bench.proofs.Listing.{Listing}
 use Rattle.bench.proofs.table_of.Given as goal
 
 abbrev pub invariant-loop-k : goal.invariant-loop-k

@@ -1,6 +1,5 @@
 use borrow.Author.Tests.{eq-eqb, ne_eqb}
 use Rattle.calls.proofs.Calling.{is-verb, is-advance, is-to}
-use borrow.Author.Rules.{rules}
 use Rattle.calls.proofs.call.Goals as goal
 
 pub returns-then-kind-lt8 : goal.returns-then-kind-lt8

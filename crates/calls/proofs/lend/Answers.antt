@@ -3,7 +3,6 @@ use mathlib.Core.Path.{refl, sym}
 use native.Mathlib.Omega.{arith}
 use lib.Seq.{length-take-le, length_front}
 use Rattle.calls.proofs.Calling.{lesser-fits, one-call}
-use borrow.Author.Rules.{rules}
 use Rattle.calls.proofs.lend.Goals as goal
 
 pub slice_bounds-call-end : goal.slice_bounds-call-end

@@ -1,6 +1,5 @@
 use mathlib.Core.Path.{refl}
 use Rattle.calls.proofs.Ending.{no_channel_is}
-use borrow.Author.Rules.{rules}
 use Rattle.calls.proofs.refused.Goals as goal
 
 pub returns : goal.returns

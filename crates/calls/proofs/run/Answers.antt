@@ -1,9 +1,7 @@
-use Rattle.channel.specs.Answers.{state}
-use Prim.Native.Nat.{◌-◌, ◌/◌, ◌≤◌}
+use Prim.Native.Nat.{◌-◌}
 use native.Mathlib.Omega.{arith}
 use lib.ListN.{length}
-use Rattle.calls.proofs.Going.{Going, go-begin, go-turn, go-end, go-fits, how_many}
-use borrow.Author.Rules.{rules}
+use Rattle.calls.proofs.Going.{go-begin, go-turn, go-end, go-fits, how_many}
 use Rattle.calls.proofs.run.Goals as goal
 
 pub loop-k-init : goal.loop-k-init

@@ -6,7 +6,6 @@ use Rattle.lists.proofs.Cases.{chosen}
 use Rattle.refusal.specs.Answer.{of_verdict}
 use Rattle.calls.proofs.Going.{how_many}
 use Rattle.calls.proofs.Ending.{ends_unopened, ends-short, ends}
-use borrow.Author.Rules.{rules}
 use Rattle.calls.proofs.run_list.Goals as goal
 
 pub returns-in-Refused : goal.returns-in-Refused

@@ -1,9 +1,9 @@
-use mathlib.Core.Path.{◌≡◌, refl, sym, ◌∙◌}
-use Prim.Native.Nat.{◌+◌, ◌-◌}
+use mathlib.Core.Path.{refl, sym, ◌∙◌}
+use Prim.Native.Nat.{◌-◌}
 use native.Mathlib.Omega.{arith}
 use Rattle.lists.proofs.Cases.{clash, length_mapped}
 use Rattle.lists.proofs.AnyLoop as any
-use Rattle.channel.proofs.Resting.{stirring, quiet_next}
+use Rattle.channel.proofs.Resting.{quiet_next}
 use borrow.Author.Rules.{rules}
 use Rattle.channel.proofs.quiet.Goals as goal
 

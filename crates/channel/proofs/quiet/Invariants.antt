@@ -1,10 +1,7 @@
-use mathlib.Core.Path.{◌≡◌, refl, sym, ◌∙◌}
+use mathlib.Core.Path.{◌≡◌}
 use Prim.Native.Nat.{◌+◌, ◌-◌}
-use native.Mathlib.Omega.{arith}
-use Rattle.lists.proofs.Cases.{clash, length_mapped}
 use Rattle.lists.proofs.AnyLoop as any
-use Rattle.channel.proofs.Resting.{stirring, quiet_next}
-use borrow.Author.Rules.{rules}
+use Rattle.channel.proofs.Resting.{stirring}
 use Rattle.channel.proofs.quiet.Given as goal
 
 abbrev pub invariant-loop-i : goal.invariant-loop-i

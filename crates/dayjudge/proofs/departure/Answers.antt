@@ -1,16 +1,9 @@
 use mathlib.Core.Bool.{true}
-use mathlib.Core.Path.{sym, subst, ◌∙◌}
-use mathlib.Core.List.{List}
-use Prim.Native.Nat.{ℕ}
+use mathlib.Core.Path.{sym, ◌∙◌}
 use native.Mathlib.Omega.{arith}
-use borrow.Author.Rules.{rules}
-use lib.ListN.{length, drop, replicate}
+use lib.ListN.{replicate}
 use Rattle.lists.proofs.Cases.{not_so, not_some}
-use Rattle.lists.proofs.Parts.{part-rest}
-use Rattle.judge.specs.Answers.{judging_of}
-use Rattle.dayjudge.specs.Steps.{Turns}
-use Rattle.judging.proofs.Laws.{to_come}
-use Rattle.dayjudge.proofs.Turning.{Rests, rests-begin, day-within, sheet-within, rests-turn, rests-less, rests-end}
+use Rattle.dayjudge.proofs.Turning.{rests-begin, day-within, sheet-within, rests-turn, rests-less, rests-end}
 use Rattle.dayjudge.proofs.departure.Goals as goal
 
 pub loop-due-init : goal.loop-due-init

@@ -1,5 +1,4 @@
 use mathlib.Core.Path.{sym, ◌∙◌}
-use borrow.Author.Rules.{rules}
 use Rattle.dayjudge.proofs.Turning.{turns-day, turns-sheet}
 use Rattle.dayjudge.proofs.turn.Goals as goal
 

@@ -1,6 +1,5 @@
 use mathlib.Core.Path.{refl, sym, ap, ◌∙◌}
 use mathlib.Core.List.{[], ◌∷◌}
-use borrow.Author.Rules.{rules}
 use Rattle.lists.proofs.Cases.{chosen, other}
 use Rattle.refusal.specs.Answer.{accepted, in_turn}
 use Rattle.refusal.proofs.Answers.{turn-accepted}

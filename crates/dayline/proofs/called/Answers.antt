@@ -1,5 +1,4 @@
 use mathlib.Core.Path.{sym, ◌∙◌}
-use borrow.Author.Rules.{rules}
 use Rattle.lists.proofs.Cases.{chosen, other}
 use Rattle.dayline.proofs.called.Goals as goal
 

@@ -1,7 +1,6 @@
 use mathlib.Core.Path.{sym, ap, ap₂, ◌∙◌}
 use mathlib.Core.List.{List}
 use Prim.Native.Nat.{ℕ}
-use borrow.Author.Rules.{rules}
 use Rattle.text.specs.Line.{after_field}
 use Rattle.day.specs.Read.{Named, when_good, verb_named}
 use Rattle.dayline.specs.Steps.{of_named, counted, entry_of, entry_read, entry_named}

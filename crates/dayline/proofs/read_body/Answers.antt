@@ -1,5 +1,4 @@
 use mathlib.Core.Path.{sym, ◌∙◌}
-use borrow.Author.Rules.{rules}
 use Rattle.dayline.proofs.Body.{period-body, server-body, end_body, entry-body}
 use Rattle.dayline.proofs.read_body.Goals as goal
 

@@ -1,5 +1,4 @@
 use mathlib.Core.Path.{sym, ap, ◌∙◌}
-use borrow.Author.Rules.{rules}
 use Rattle.timecode.specs.Read.{of_timecode, read_timecode}
 use Rattle.dayline.specs.Steps.{end_of}
 use Rattle.dayline.proofs.Good.{good, bad}

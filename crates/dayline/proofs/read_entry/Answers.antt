@@ -1,7 +1,6 @@
 use mathlib.Core.Path.{◌≡◌, refl, sym, ap, ap₂, ◌∙◌}
 use mathlib.Core.List.{[], ◌∷◌}
 use Prim.Native.Nat.{ℕ}
-use borrow.Author.Rules.{rules}
 use Rattle.refusal.specs.Answer.{accepted, in_turn}
 use Rattle.timecode.specs.Read.{of_timecode}
 use Rattle.dayline.specs.Steps.{entry_of}

@@ -1,6 +1,5 @@
 use mathlib.Core.Path.{sym, ap, ◌∙◌}
 use native.Mathlib.Omega.{arith}
-use borrow.Author.Rules.{rules}
 use Rattle.text.specs.Number.{of_number, read_number}
 use Rattle.text.proofs.Reading.{number-within}
 use Rattle.dayline.specs.Steps.{period_of}

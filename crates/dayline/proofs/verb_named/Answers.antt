@@ -1,5 +1,4 @@
 use mathlib.Core.Path.{ap, ◌∙◌}
-use borrow.Author.Rules.{rules}
 use Rattle.lists.specs.Choice.{choose}
 use Rattle.day.specs.Read.{verb_named}
 use Rattle.dayline.proofs.verb_named.Goals as goal

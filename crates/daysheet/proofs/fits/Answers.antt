@@ -1,16 +1,12 @@
 use mathlib.Core.List.{[]}
 use mathlib.Core.Bool.{true}
-use mathlib.Core.Path.{◌≡◌, refl, sym, ◌∙◌}
-use Prim.Native.Nat.{◌-◌, ◌≤◌}
+use mathlib.Core.Path.{refl, sym, ◌∙◌}
+use Prim.Native.Nat.{◌-◌}
 use native.Mathlib.Omega.{arith}
 use borrow.Author.Tests.{le-leb, lt-leb, not-true, not-false}
-use lib.ListN.{length, replicate}
-use Rattle.feeding.specs.Bound.{step_bytes}
-use Rattle.feed.specs.Answers.{fed_of}
-use Rattle.daysheet.proofs.Counting.{Counting, to_count, header-over, count-begins, used-within, count-over, count_turn, count_less, count-ends}
+use lib.ListN.{replicate}
+use Rattle.daysheet.proofs.Counting.{header-over, count-begins, used-within, count-over, count_turn, count_less, count-ends}
 use borrow.Author.Rules.{rules}
-use mathlib.Core.Path.{ap}
-use mathlib.Core.Bool.{not}
 use Rattle.daysheet.proofs.fits.Goals as goal
 
 pub returns-then-not-after : goal.returns-then-not-after

@@ -1,14 +1,9 @@
-use mathlib.Core.List.{[]}
-use mathlib.Core.Bool.{true}
-use mathlib.Core.Path.{◌≡◌, refl, sym, ◌∙◌}
+use mathlib.Core.Path.{◌≡◌}
 use Prim.Native.Nat.{◌-◌, ◌≤◌}
-use native.Mathlib.Omega.{arith}
-use borrow.Author.Tests.{le-leb, lt-leb, not-true, not-false}
-use lib.ListN.{length, replicate}
+use lib.ListN.{length}
 use Rattle.feeding.specs.Bound.{step_bytes}
 use Rattle.feed.specs.Answers.{fed_of}
-use Rattle.daysheet.proofs.Counting.{Counting, to_count, header-over, count-begins, used-within, count-over, count_turn, count_less, count-ends}
-use borrow.Author.Rules.{rules}
+use Rattle.daysheet.proofs.Counting.{Counting, to_count}
 use Rattle.daysheet.proofs.fits.Given as goal
 
 abbrev pub invariant-loop-line : goal.invariant-loop-line

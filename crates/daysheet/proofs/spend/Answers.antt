@@ -1,7 +1,6 @@
 use mathlib.Core.Path.{refl, sym, ◌∙◌}
 use native.Mathlib.Omega.{arith}
 use Rattle.printer.proofs.Told.{same-to, not-to}
-use borrow.Author.Rules.{rules}
 use Rattle.daysheet.proofs.spend.Goals as goal
 
 pub returns-then-n-left : goal.returns-then-n-left

@@ -3,7 +3,6 @@ use mathlib.Core.Path.{refl}
 use native.Mathlib.Omega.{arith}
 use lib.ListN.{replicate}
 use Rattle.daysheet.proofs.Writing.{place-within, bytes, all-within, writes-all}
-use borrow.Author.Rules.{rules}
 use Rattle.daysheet.proofs.write.Goals as goal
 
 pub slice_bounds-print-count : goal.slice_bounds-print-count

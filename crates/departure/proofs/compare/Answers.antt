@@ -1,8 +1,5 @@
 use Prim.Native.Nat.{◌-◌}
 use native.Mathlib.Omega.{arith}
-use borrow.Author.Rules.{rules}
-use lib.ListN.{length}
-use Rattle.departure.specs.Steps.{Comparing}
 use Rattle.departure.proofs.Comparing as comparing
 use Rattle.departure.proofs.Laws.{laws}
 use Rattle.departure.proofs.compare.Goals as goal

@@ -1,11 +1,7 @@
 -- The loop's invariant: equal before i, which end so many lines.
 use Prim.Native.Nat.{◌-◌}
-use native.Mathlib.Omega.{arith}
-use borrow.Author.Rules.{rules}
 use lib.ListN.{length}
 use Rattle.departure.specs.Steps.{Comparing}
-use Rattle.departure.proofs.Comparing as comparing
-use Rattle.departure.proofs.Laws.{laws}
 use Rattle.departure.proofs.compare.Given as goal
 
 abbrev pub invariant-loop-i : goal.invariant-loop-i

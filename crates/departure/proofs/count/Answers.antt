@@ -1,7 +1,7 @@
 use Prim.Native.Nat.{◌+◌, ◌-◌}
 use native.Mathlib.Omega.{arith}
 use lib.ListN.{get_or}
-use Rattle.departure.proofs.Comparing.{Counting, count-begin, count_turn, count-end, alike-small}
+use Rattle.departure.proofs.Comparing.{count-begin, count_turn, count-end, alike-small}
 use Rattle.departure.proofs.count.Goals as goal
 
 pub loop-i-init : goal.loop-i-init

@@ -1,8 +1,6 @@
 -- The loop's invariant: where all of the block so far are equal, it goes on after them.
-use Prim.Native.Nat.{◌+◌, ◌-◌}
-use native.Mathlib.Omega.{arith}
-use lib.ListN.{get_or}
-use Rattle.departure.proofs.Comparing.{Counting, count-begin, count_turn, count-end, alike-small}
+use Prim.Native.Nat.{◌-◌}
+use Rattle.departure.proofs.Comparing.{Counting}
 use Rattle.departure.proofs.count.Given as goal
 
 abbrev pub invariant-loop-i : goal.invariant-loop-i

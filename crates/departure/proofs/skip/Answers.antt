@@ -1,8 +1,5 @@
 use Prim.Native.Nat.{◌-◌}
 use native.Mathlib.Omega.{arith}
-use borrow.Author.Rules.{rules}
-use lib.ListN.{length}
-use Rattle.departure.specs.Steps.{Comparing}
 use Rattle.departure.proofs.Comparing.{begin, room_for}
 use Rattle.departure.proofs.skip.Goals as goal
 

@@ -1,10 +1,7 @@
 -- The loop's invariant: all before i are equal.
 use Prim.Native.Nat.{◌-◌}
-use native.Mathlib.Omega.{arith}
-use borrow.Author.Rules.{rules}
 use lib.ListN.{length}
 use Rattle.departure.specs.Steps.{Comparing}
-use Rattle.departure.proofs.Comparing.{begin, room_for}
 use Rattle.departure.proofs.skip.Given as goal
 
 abbrev pub invariant-loop-i : goal.invariant-loop-i

@@ -2,7 +2,6 @@ use mathlib.Core.Path.{ap}
 use Rattle.day.specs.Day.{beyond}
 use Rattle.dayline.specs.declared.DayLine.{DayLine}
 use Rattle.dayline.specs.DayLine.{of_day_line}
-use borrow.Author.Rules.{rules}
 use Rattle.feed.proofs.beyond.Goals as goal
 
 pub returns-in-Wrong : goal.returns-in-Wrong

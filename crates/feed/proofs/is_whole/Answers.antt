@@ -1,7 +1,6 @@
 use mathlib.Core.Path.{sym, ◌∙◌}
 use native.Mathlib.Omega.{arith}
 use Rattle.feeding.proofs.Taking.{whole_long, whole-empty, held-take, whole-at}
-use borrow.Author.Rules.{rules}
 use Rattle.feed.proofs.is_whole.Goals as goal
 
 pub returns-then-m-ge-LINE : goal.returns-then-m-ge-LINE

@@ -1,6 +1,5 @@
 use Rattle.text.proofs.Writing.{first_piece, chain}
 use Rattle.feeding.proofs.Refusals.{refusal-pieces}
-use borrow.Author.Rules.{rules}
 use Rattle.feed.proofs.put_refusal.Goals as goal
 
 pub shape_of-out : goal.shape_of-out

@@ -2,7 +2,6 @@ use mathlib.Core.Path.{sym, ap, ◌∙◌}
 use lib.Seq.{length-take-le}
 use Rattle.day.specs.Read.{line_read}
 use Rattle.feeding.proofs.Taking.{held-take}
-use borrow.Author.Rules.{rules}
 use Rattle.feed.proofs.read.Goals as goal
 
 pub slice_bounds-read-end : goal.slice_bounds-read-end

@@ -1,7 +1,6 @@
 use native.Mathlib.Omega.{arith}
 use Rattle.feeding.proofs.Refusals.{refusal-long}
 use Rattle.feed.proofs.Making.{few}
-use borrow.Author.Rules.{rules}
 use Rattle.feed.proofs.refusal_length.Goals as goal
 
 pub overflow_add-result : goal.overflow_add-result

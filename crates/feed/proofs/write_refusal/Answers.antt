@@ -4,7 +4,6 @@ use native.Mathlib.Omega.{arith}
 use borrow.Author.Tests.{leb-true, leb-false}
 use lib.ListN.{length}
 use Rattle.text.proofs.Writing.{whole, writes_short}
-use borrow.Author.Rules.{rules}
 use Rattle.feed.proofs.write_refusal.Goals as goal
 
 pub returns-then-fits : goal.returns-then-fits

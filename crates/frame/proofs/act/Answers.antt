@@ -1,5 +1,4 @@
 use Rattle.frame.proofs.Hearings.{listened_turn}
-use borrow.Author.Rules.{rules}
 use Rattle.frame.proofs.act.Goals as goal
 
 pub returns-then-just_listens : goal.returns-then-just_listens

@@ -1,16 +1,7 @@
-use mathlib.Core.Path.{subst, sym, ap, ◌∙◌}
-use mathlib.Core.List.{List}
-use Prim.Native.Nat.{◌+◌, ◌-◌, ◌<◌}
-use native.Mathlib.Omega.{arith}
+use Prim.Native.Nat.{◌-◌}
 use Rattle.lists.proofs.MapLoop.{Mapped}
-use Rattle.lists.proofs.MapLoop as map
-use Rattle.server.specs.declared.Server.{Server}
-use Rattle.server.specs.Server.{absent, cleared}
 use Rattle.places.specs.Words.{servers_of, Keeps}
 use Rattle.frame.specs.Steps.{clearing}
-use Rattle.places.proofs.Words.{long_of}
-use Rattle.places.proofs.Canonical.{keeps-all, keeps_then}
-use Rattle.frame.proofs.Still.{still_clear}
 use Rattle.frame.proofs.clear_all.Given as goal
 
 abbrev pub invariant-loop-j : goal.invariant-loop-j

@@ -1,4 +1,3 @@
-use borrow.Author.Rules.{rules}
 use Rattle.frame.proofs.count_frame.Goals as goal
 
 pub play_frame-requires : goal.play_frame-requires

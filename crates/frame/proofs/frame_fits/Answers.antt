@@ -9,7 +9,6 @@ use Rattle.frame.specs.Answers.{state_of}
 use Rattle.places.proofs.Words.{long_of, fits-of}
 use Rattle.frame.proofs.Bound.{frame-most}
 use Rattle.frame.proofs.Telling.{counted-fits}
-use borrow.Author.Rules.{rules}
 use Rattle.frame.proofs.frame_fits.Goals as goal
 
 pub overflow_sub-out : goal.overflow_sub-out

@@ -4,7 +4,7 @@ use Prim.Native.Nat.{◌-◌}
 use native.Mathlib.Omega.{arith}
 use lib.ListN.{get_or}
 use Rattle.places.proofs.Order.{hears-at}
-use Rattle.frame.proofs.Lookup.{Also, also-turn}
+use Rattle.frame.proofs.Lookup.{also-turn}
 use borrow.Author.Rules.{rules}
 use Rattle.frame.proofs.hear_also.Goals as goal
 

@@ -1,11 +1,5 @@
-use mathlib.Core.Bool.{Bool, false, ◌||◌}
-use mathlib.Core.Path.{ap, ◌∙◌}
 use Prim.Native.Nat.{◌-◌}
-use native.Mathlib.Omega.{arith}
-use lib.ListN.{get_or}
-use Rattle.places.proofs.Order.{hears-at}
-use Rattle.frame.proofs.Lookup.{Also, also-turn}
-use borrow.Author.Rules.{rules}
+use Rattle.frame.proofs.Lookup.{Also}
 use Rattle.frame.proofs.hear_also.Given as goal
 
 abbrev pub invariant-loop-j : goal.invariant-loop-j

@@ -1,7 +1,6 @@
-use Prim.Native.Nat.{◌-◌, ◌≤◌}
+use Prim.Native.Nat.{◌-◌}
 use native.Mathlib.Omega.{arith}
-use lib.ListN.{replicate}
-use Rattle.frame.proofs.Hearings.{Hearing, begin, turn, finish, replicate-all, replicate_more, replicate-none}
+use Rattle.frame.proofs.Hearings.{begin, turn, finish, replicate-all, replicate_more, replicate-none}
 use borrow.Author.Rules.{rules}
 use Rattle.frame.proofs.hear_beats.Goals as goal
 

@@ -1,8 +1,6 @@
 use Prim.Native.Nat.{◌-◌, ◌≤◌}
-use native.Mathlib.Omega.{arith}
 use lib.ListN.{replicate}
-use Rattle.frame.proofs.Hearings.{Hearing, begin, turn, finish, replicate-all, replicate_more, replicate-none}
-use borrow.Author.Rules.{rules}
+use Rattle.frame.proofs.Hearings.{Hearing}
 use Rattle.frame.proofs.hear_beats.Given as goal
 
 abbrev pub invariant-loop-k : goal.invariant-loop-k

@@ -1,6 +1,5 @@
 use Rattle.server.specs.Server.{sent_by}
 use Rattle.frame.proofs.Hearings.{hears-then}
-use borrow.Author.Rules.{rules}
 use Rattle.frame.proofs.hear_each.Goals as goal
 
 pub returns : goal.returns

@@ -2,7 +2,6 @@ use mathlib.Core.Path.{sym, ap, ◌∙◌}
 use Rattle.server.specs.Server.{sent_by}
 use Rattle.frame.proofs.Hearings.{hears_as}
 use Rattle.frame.proofs.Heeding.{silent-hears, heeds-silently}
-use borrow.Author.Rules.{rules}
 use Rattle.frame.proofs.hear_from.Goals as goal
 
 pub sender-from-requires : goal.sender-from-requires

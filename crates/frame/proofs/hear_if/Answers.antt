@@ -1,6 +1,5 @@
 use Rattle.lists.specs.Choice.{choose}
 use Rattle.frame.proofs.Hearings.{none}
-use borrow.Author.Rules.{rules}
 use Rattle.frame.proofs.hear_if.Goals as goal
 
 pub returns-then-yes : goal.returns-then-yes

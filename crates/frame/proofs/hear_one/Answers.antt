@@ -1,5 +1,4 @@
 use Rattle.frame.proofs.Hearings.{one}
-use borrow.Author.Rules.{rules}
 use Rattle.frame.proofs.hear_one.Goals as goal
 
 pub returns : goal.returns

@@ -1,7 +1,6 @@
 use borrow.Author.Tests.{eq-eqb, ne_eqb}
 use Rattle.lists.proofs.Cases.{chosen, other}
 use Rattle.frame.proofs.Hearings.{none}
-use borrow.Author.Rules.{rules}
 use Rattle.frame.proofs.hear_pass.Goals as goal
 
 pub returns-then-sender-eq0 : goal.returns-then-sender-eq0

@@ -5,7 +5,6 @@ use Rattle.places.proofs.Words.{long_of}
 use Rattle.frame.proofs.Listing.{lists_all}
 use Rattle.frame.proofs.Lookup.{inbox-same, unheard}
 use Rattle.frame.proofs.Unheard.{unheard_run}
-use borrow.Author.Rules.{rules}
 use Rattle.frame.proofs.heard_frame.Goals as goal
 
 pub list_senders-count-requires : goal.list_senders-count-requires

@@ -3,7 +3,6 @@ use mathlib.Core.Logic.{⊎_elim}
 use Prim.Native.Nat.{◌-◌}
 use native.Mathlib.Omega.{arith}
 use Rattle.lists.proofs.Cases.{less}
-use Rattle.frame.specs.Steps.{Hearers}
 use borrow.Author.Rules.{rules}
 use Rattle.frame.proofs.hearers.Goals as goal
 

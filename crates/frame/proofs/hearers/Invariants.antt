@@ -1,10 +1,5 @@
-use mathlib.Core.Path.{◌≡◌, refl}
-use mathlib.Core.Logic.{⊎_elim}
 use Prim.Native.Nat.{◌-◌}
-use native.Mathlib.Omega.{arith}
-use Rattle.lists.proofs.Cases.{less}
 use Rattle.frame.specs.Steps.{Hearers}
-use borrow.Author.Rules.{rules}
 use Rattle.frame.proofs.hearers.Given as goal
 
 abbrev pub invariant-loop-k : goal.invariant-loop-k

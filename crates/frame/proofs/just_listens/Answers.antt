@@ -7,7 +7,6 @@ use Rattle.server.specs.Server.{sent_by}
 use Rattle.frame.proofs.Hearings.{just_listens}
 use Rattle.places.proofs.Order.{hears-at}
 use Rattle.frame.proofs.Lookup.{only-heard}
-use borrow.Author.Rules.{rules}
 use Rattle.frame.proofs.just_listens.Goals as goal
 
 pub offset_bounds-ranks-i : goal.offset_bounds-ranks-i

@@ -1,12 +1,10 @@
 use mathlib.Core.Bool.{Bool}
 use mathlib.Core.Path.{ap, ◌∙◌}
-use Prim.Native.Nat.{◌-◌, ◌≤◌, ◌<◌}
+use Prim.Native.Nat.{◌-◌}
 use native.Mathlib.Omega.{arith}
-use lib.ListN.{get_or}
 use Rattle.lists.specs.Choice.{choose}
 use Rattle.places.proofs.Order.{hears-at}
-use Rattle.frame.proofs.Lookup.{Nearing, near_begin, near_turn, near_end}
-use borrow.Author.Rules.{rules}
+use Rattle.frame.proofs.Lookup.{near_begin, near_turn, near_end}
 use Rattle.frame.proofs.list_heard.Goals as goal
 
 pub loop-k-init : goal.loop-k-init

@@ -1,12 +1,5 @@
-use mathlib.Core.Bool.{Bool}
-use mathlib.Core.Path.{ap, ◌∙◌}
-use Prim.Native.Nat.{◌-◌, ◌≤◌, ◌<◌}
-use native.Mathlib.Omega.{arith}
-use lib.ListN.{get_or}
-use Rattle.lists.specs.Choice.{choose}
-use Rattle.places.proofs.Order.{hears-at}
-use Rattle.frame.proofs.Lookup.{Nearing, near_begin, near_turn, near_end}
-use borrow.Author.Rules.{rules}
+use Prim.Native.Nat.{◌-◌, ◌≤◌}
+use Rattle.frame.proofs.Lookup.{Nearing}
 use Rattle.frame.proofs.list_heard.Given as goal
 
 abbrev pub invariant-loop-k : goal.invariant-loop-k

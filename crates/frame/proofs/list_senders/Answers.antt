@@ -1,10 +1,9 @@
 use mathlib.Core.Path.{◌∙◌, ap}
 use Prim.Native.Nat.{◌-◌}
 use native.Mathlib.Omega.{arith}
-use Rattle.places.specs.Words.{sending_number, servers_of}
+use Rattle.places.specs.Words.{sending_number}
 use Rattle.places.proofs.Words.{fits-of}
-use Rattle.frame.proofs.Listing.{Listing, list_begin, list_turn, list_end}
-use borrow.Author.Rules.{rules}
+use Rattle.frame.proofs.Listing.{list_begin, list_turn, list_end}
 use Rattle.frame.proofs.list_senders.Goals as goal
 
 pub loop-i-init : goal.loop-i-init

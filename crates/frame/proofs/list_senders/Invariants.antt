@@ -1,10 +1,6 @@
-use mathlib.Core.Path.{◌∙◌, ap}
 use Prim.Native.Nat.{◌-◌}
-use native.Mathlib.Omega.{arith}
-use Rattle.places.specs.Words.{sending_number, servers_of}
-use Rattle.places.proofs.Words.{fits-of}
-use Rattle.frame.proofs.Listing.{Listing, list_begin, list_turn, list_end}
-use borrow.Author.Rules.{rules}
+use Rattle.places.specs.Words.{servers_of}
+use Rattle.frame.proofs.Listing.{Listing}
 use Rattle.frame.proofs.list_senders.Given as goal
 
 abbrev pub invariant-loop-i : goal.invariant-loop-i

@@ -1,9 +1,8 @@
 use mathlib.Core.Path.{◌∙◌, ap}
 use Prim.Native.Nat.{◌-◌}
 use native.Mathlib.Omega.{arith}
-use Rattle.places.specs.Words.{sending_number, servers_of}
-use Rattle.frame.proofs.Loud.{Louder, loud_begin, loud_turn, loud_end}
-use borrow.Author.Rules.{rules}
+use Rattle.places.specs.Words.{sending_number}
+use Rattle.frame.proofs.Loud.{loud_begin, loud_turn, loud_end}
 use Rattle.frame.proofs.loudest.Goals as goal
 
 pub loop-i-init : goal.loop-i-init

@@ -2,11 +2,9 @@ use mathlib.Core.Path.{refl, sym, ap, subst, ◌∙◌}
 use Prim.Native.Nat.{ℕ, ◌-◌}
 use native.Mathlib.Omega.{arith}
 use lib.ListN.{get_or}
-use borrow.Author.Rules.{rules}
 use Rattle.places.specs.declared.Best.{Best}
 use Rattle.places.specs.Order.{better_of}
 use Rattle.places.proofs.Order.{IsBest, best_none}
-use Rattle.frame.specs.Steps.{Listed}
 use Rattle.frame.proofs.Lookup.{Looking, look_begin, best_look, look_end}
 use Rattle.frame.proofs.next_sender.Goals as goal
 

@@ -1,13 +1,7 @@
-use mathlib.Core.Path.{refl, sym, ap, subst, ◌∙◌}
-use Prim.Native.Nat.{ℕ, ◌-◌}
-use native.Mathlib.Omega.{arith}
-use lib.ListN.{get_or}
-use borrow.Author.Rules.{rules}
-use Rattle.places.specs.declared.Best.{Best}
-use Rattle.places.specs.Order.{better_of}
-use Rattle.places.proofs.Order.{IsBest, best_none}
+use Prim.Native.Nat.{◌-◌}
+use Rattle.places.proofs.Order.{IsBest}
 use Rattle.frame.specs.Steps.{Listed}
-use Rattle.frame.proofs.Lookup.{Looking, look_begin, best_look, look_end}
+use Rattle.frame.proofs.Lookup.{Looking}
 use Rattle.frame.proofs.next_sender.Given as goal
 
 -- `best` is the best of the first k places near

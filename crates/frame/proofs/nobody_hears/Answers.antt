@@ -2,9 +2,7 @@ use mathlib.Core.Path.{refl}
 use Prim.Native.Nat.{◌-◌}
 use native.Mathlib.Omega.{arith}
 use Rattle.lists.proofs.Cases.{clash}
-use Rattle.frame.specs.Steps.{Deaf}
 use Rattle.frame.proofs.Unheard.{deaf-more}
-use borrow.Author.Rules.{rules}
 use Rattle.frame.proofs.nobody_hears.Goals as goal
 
 pub loop-j-init : goal.loop-j-init

@@ -1,12 +1,9 @@
 use mathlib.Core.Path.{sym, ap, ◌∙◌}
-use Prim.Native.Nat.{ℕ, ◌-◌}
+use Prim.Native.Nat.{◌-◌}
 use native.Mathlib.Omega.{arith}
-use lib.ListN.{take}
 use lib.Seq.{get_or-take}
-use borrow.Author.Rules.{rules}
-use Rattle.lists.proofs.Cases.{not_so, not_some}
-use Rattle.lists.proofs.EachLoop.{Passed, test-begin, test-turn, test-fails, test-end}
-use Rattle.frame.specs.Steps.{Listed, higher_at}
+use Rattle.lists.proofs.EachLoop.{test-begin, test-turn, test-fails, test-end}
+use Rattle.frame.specs.Steps.{higher_at}
 use Rattle.frame.proofs.Lookup.{long}
 use Rattle.frame.proofs.only_higher.Goals as goal
 

@@ -1,13 +1,7 @@
-use mathlib.Core.Path.{sym, ap, ◌∙◌}
-use Prim.Native.Nat.{ℕ, ◌-◌}
-use native.Mathlib.Omega.{arith}
+use Prim.Native.Nat.{◌-◌}
 use lib.ListN.{take}
-use lib.Seq.{get_or-take}
-use borrow.Author.Rules.{rules}
-use Rattle.lists.proofs.Cases.{not_so, not_some}
-use Rattle.lists.proofs.EachLoop.{Passed, test-begin, test-turn, test-fails, test-end}
+use Rattle.lists.proofs.EachLoop.{Passed}
 use Rattle.frame.specs.Steps.{Listed, higher_at}
-use Rattle.frame.proofs.Lookup.{long}
 use Rattle.frame.proofs.only_higher.Given as goal
 
 -- the first k places near are such senders

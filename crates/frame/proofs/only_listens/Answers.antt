@@ -1,7 +1,6 @@
 use mathlib.Core.Bool.{Bool, not, ◌&&◌}
 use mathlib.Core.Path.{ap}
 use lib.Dec.{eqb}
-use borrow.Author.Rules.{rules}
 use Rattle.frame.proofs.only_listens.Goals as goal
 
 pub returns : goal.returns

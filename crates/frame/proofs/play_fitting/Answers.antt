@@ -3,7 +3,6 @@ use lib.ListN.{length}
 use Rattle.places.specs.Words.{servers_of}
 use Rattle.frame.specs.Answers.{state_of}
 use Rattle.frame.proofs.Faring.{plays-so, plays-not}
-use borrow.Author.Rules.{rules}
 use Rattle.frame.proofs.play_fitting.Goals as goal
 
 pub frame_fits-requires : goal.frame_fits-requires

@@ -3,7 +3,6 @@ use Rattle.frame.specs.Answers.{state_of}
 use Rattle.places.proofs.Words.{long_of}
 use Rattle.frame.proofs.Loud.{loud_quiet}
 use Rattle.frame.proofs.Frames.{ticks_run}
-use borrow.Author.Rules.{rules}
 use Rattle.frame.proofs.play_frame.Goals as goal
 
 pub tick_all-requires : goal.tick_all-requires

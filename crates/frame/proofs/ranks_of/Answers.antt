@@ -1,9 +1,8 @@
 use mathlib.Core.Path.{◌∙◌, ap, subst}
 use Prim.Native.Nat.{◌-◌, ◌<◌}
-use native.Mathlib.Omega.{arith}
 use Rattle.server.specs.declared.Server.{Server}
-use Rattle.places.specs.Words.{servers_of, rank_number}
-use Rattle.frame.proofs.Listing.{Ranking, rank-begin, rank-turn, rank-end}
+use Rattle.places.specs.Words.{rank_number}
+use Rattle.frame.proofs.Listing.{rank-begin, rank-turn, rank-end}
 use borrow.Author.Rules.{rules}
 use Rattle.frame.proofs.ranks_of.Goals as goal
 

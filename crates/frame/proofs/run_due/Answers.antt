@@ -3,7 +3,6 @@ use Rattle.server.specs.Server.{after}
 use Rattle.frame.proofs.Hearings.{beats_say}
 use Rattle.frame.proofs.Quiet.{primary-beats}
 use Rattle.frame.proofs.Writing.{says-out}
-use borrow.Author.Rules.{rules}
 use Rattle.frame.proofs.run_due.Goals as goal
 
 pub returns-then-is_primary : goal.returns-then-is_primary

@@ -1,5 +1,4 @@
 use Rattle.frame.proofs.Hearings.{timers_say}
-use borrow.Author.Rules.{rules}
 use Rattle.frame.proofs.run_timers.Goals as goal
 
 pub returns : goal.returns

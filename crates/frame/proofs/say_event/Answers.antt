@@ -1,7 +1,6 @@
 use mathlib.Core.Path.{sym, ap, ◌∙◌}
 use Rattle.lines.specs.Lines.{lines_of}
 use Rattle.frame.proofs.Writing.{start, says-out, out_as}
-use borrow.Author.Rules.{rules}
 use Rattle.frame.proofs.say_event.Goals as goal
 
 pub returns-in-Nothing : goal.returns-in-Nothing

@@ -1,11 +1,7 @@
 use mathlib.Core.Path.{◌∙◌, ap}
 use mathlib.Core.Bool.{not}
-use native.Mathlib.Omega.{arith}
-use Rattle.places.specs.Words.{servers_of}
 use Rattle.places.specs.Roles.{is_still}
-use Rattle.frame.specs.Steps.{Still}
 use Rattle.frame.proofs.Still.{still-begin, still-less}
-use borrow.Author.Rules.{rules}
 use Rattle.frame.proofs.still_from.Goals as goal
 
 pub loop-n-init : goal.loop-n-init

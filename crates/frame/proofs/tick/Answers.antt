@@ -1,7 +1,6 @@
 use mathlib.Core.Path.{refl, sym, ◌∙◌}
 use Rattle.frame.proofs.Quiet.{no_timer}
 use Rattle.frame.proofs.Hearings.{no_ticks}
-use borrow.Author.Rules.{rules}
 use Rattle.frame.proofs.tick.Goals as goal
 
 pub returns-then-ticks : goal.returns-then-ticks

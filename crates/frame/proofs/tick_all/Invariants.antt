@@ -1,20 +1,10 @@
-use mathlib.Core.Path.{refl, subst, sym, ◌∙◌}
-use mathlib.Core.List.{List}
-use Prim.Native.Nat.{◌+◌, ◌-◌, ◌<◌}
-use native.Mathlib.Omega.{arith}
+use Prim.Native.Nat.{◌-◌}
 use lib.ListN.{drop}
 use Rattle.lists.proofs.MapLoop.{Mapped}
-use Rattle.lists.proofs.MapLoop as map
-use Rattle.server.specs.declared.Server.{Server}
-use Rattle.server.specs.Server.{absent}
 use Rattle.places.specs.Words.{servers_of, Keeps}
 use Rattle.frame.specs.Steps.{ticked, tick_lines}
-use Rattle.places.proofs.Words.{long_of}
-use Rattle.places.proofs.Canonical.{keeps-all, keeps_then}
 use Rattle.frame.proofs.Writing.{Toward}
 use Rattle.frame.proofs.Writing as out
-use Rattle.frame.proofs.Frames.{ticks-more, ticks_as}
-use Rattle.frame.proofs.Still.{still-ticked, ticks-early}
 use Rattle.frame.proofs.tick_all.Given as goal
 
 abbrev pub invariant-loop-j : goal.invariant-loop-j

@@ -3,7 +3,6 @@ use lib.ListN.{set}
 use Rattle.places.specs.Words.{servers_of}
 use Rattle.places.proofs.Canonical.{keeps-all, becomes-keeps}
 use Rattle.frame.proofs.Frames.{does_as, ticks-none}
-use borrow.Author.Rules.{rules}
 use Rattle.frame.proofs.tick_at.Goals as goal
 
 pub run_due-t-requires : goal.run_due-t-requires

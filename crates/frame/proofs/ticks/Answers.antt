@@ -1,7 +1,6 @@
 use mathlib.Core.Path.{ap₂}
 use mathlib.Core.Bool.{Bool, ◌||◌}
 use Rattle.server.specs.Timers.{aged}
-use borrow.Author.Rules.{rules}
 use Rattle.frame.proofs.ticks.Goals as goal
 
 pub returns-in-Down : goal.returns-in-Down

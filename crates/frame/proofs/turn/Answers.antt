@@ -1,6 +1,5 @@
 use Rattle.frame.specs.Steps.{inbox_by}
 use Rattle.frame.proofs.Hearings.{turning}
-use borrow.Author.Rules.{rules}
 use Rattle.frame.proofs.turn.Goals as goal
 
 pub returns : goal.returns

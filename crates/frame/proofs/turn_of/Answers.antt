@@ -9,7 +9,6 @@ use Rattle.frame.proofs.Hearings.{idle-turn}
 use Rattle.frame.proofs.Heeding.{and_false, Silent, silent-nothing, aside_still}
 use Rattle.frame.proofs.Still.{still-heard}
 use Rattle.frame.proofs.Lookup.{unheard}
-use borrow.Author.Rules.{rules}
 use Rattle.frame.proofs.turn_of.Goals as goal
 
 pub act-requires : goal.act-requires

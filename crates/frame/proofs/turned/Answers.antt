@@ -1,14 +1,10 @@
 use mathlib.Core.Path.{refl}
 use Prim.Native.Nat.{◌+◌, ◌-◌, ◌<◌}
 use native.Mathlib.Omega.{arith}
-use lib.ListN.{drop}
 use Rattle.lists.proofs.Cases.{length_mapped}
-use Rattle.lists.proofs.MapLoop.{Mapped}
 use Rattle.lists.proofs.MapLoop as map
 use Rattle.server.specs.Server.{absent}
-use Rattle.group.specs.Frame.{turned, turns_lines}
 use Rattle.frame.specs.Answers.{state_of}
-use Rattle.frame.proofs.Writing.{Toward}
 use Rattle.frame.proofs.Writing as out
 use Rattle.frame.proofs.Lookup.{inbox-same}
 use Rattle.frame.proofs.Frames.{lines_more, turn_is, frame-runs}

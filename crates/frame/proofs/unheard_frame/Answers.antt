@@ -3,7 +3,6 @@ use Rattle.frame.specs.Steps.{Still}
 use Rattle.places.proofs.Words.{long_of}
 use Rattle.places.proofs.Canonical.{keeps_then}
 use Rattle.frame.proofs.Unheard.{cleared-still}
-use borrow.Author.Rules.{rules}
 use Rattle.frame.proofs.unheard_frame.Goals as goal
 
 pub clear_all-requires : goal.clear_all-requires

@@ -1,16 +1,13 @@
-use mathlib.Core.Bool.{◌&&◌}
 use mathlib.Core.Path.{refl, sym, subst}
 use Prim.Native.Nat.{◌+◌, ◌-◌}
 use native.Mathlib.Omega.{arith}
 use lib.Dec.{leb}
-use Rattle.lists.proofs.Cases.{clash, same_choice, fst_true, snd_true, not_some}
+use Rattle.lists.proofs.Cases.{clash, same_choice, fst_true, snd_true}
 use Rattle.server.specs.declared.Server.{Server}
-use Rattle.places.specs.Words.{servers_of}
 use Rattle.frame.specs.Steps.{Rests}
-use Rattle.frame.proofs.Quiet.{Resting, rest-begin, rest-turn}
+use Rattle.frame.proofs.Quiet.{rest-begin, rest-turn}
 use Rattle.frame.proofs.Still.{still-begin, rest-early}
-use Rattle.frame.proofs.Loud.{Louder, loud_begin, loud_turn, loud_end}
-use borrow.Author.Rules.{rules}
+use Rattle.frame.proofs.Loud.{loud_begin, loud_turn, loud_end}
 use Rattle.frames.proofs.all_quiet.Goals as goal
 
 pub loop-i-init : goal.loop-i-init

@@ -1,14 +1,13 @@
 use mathlib.Core.Bool.{false}
 use mathlib.Core.Path.{refl, subst}
-use Prim.Native.Nat.{◌-◌, ◌≤◌}
+use Prim.Native.Nat.{◌-◌}
 use native.Mathlib.Omega.{arith}
 use lib.ListN.{get_or}
 use Rattle.lists.proofs.Cases.{clash}
 use Rattle.group.specs.Hearing.{link_of}
 use Rattle.places.specs.Words.{servers_of}
-use Rattle.frames.specs.Steps.{Waits, AllWait}
+use Rattle.frames.specs.Steps.{Waits}
 use Rattle.frames.proofs.Beating.{waits-more}
-use borrow.Author.Rules.{rules}
 use Rattle.frames.proofs.all_wait.Goals as goal
 
 pub loop-i-init : goal.loop-i-init

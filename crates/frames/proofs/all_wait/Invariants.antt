@@ -1,14 +1,6 @@
-use mathlib.Core.Bool.{false}
-use mathlib.Core.Path.{refl, subst}
 use Prim.Native.Nat.{◌-◌, ◌≤◌}
-use native.Mathlib.Omega.{arith}
-use lib.ListN.{get_or}
-use Rattle.lists.proofs.Cases.{clash}
-use Rattle.group.specs.Hearing.{link_of}
 use Rattle.places.specs.Words.{servers_of}
-use Rattle.frames.specs.Steps.{Waits, AllWait}
-use Rattle.frames.proofs.Beating.{waits-more}
-use borrow.Author.Rules.{rules}
+use Rattle.frames.specs.Steps.{AllWait}
 use Rattle.frames.proofs.all_wait.Given as goal
 
 abbrev pub invariant-loop-i : goal.invariant-loop-i

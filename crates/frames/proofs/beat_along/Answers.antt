@@ -15,7 +15,6 @@ use Rattle.places.proofs.Words.{long_of}
 use Rattle.frames.proofs.Moving.{moves-none, moves-on, moves-then}
 use Rattle.frames.proofs.Fitting.{stretch_fares}
 use Rattle.frames.proofs.Beating.{beats-last, beats-first, beats_stretch, beats-none}
-use borrow.Author.Rules.{rules}
 use Rattle.frames.proofs.beat_along.Goals as goal
 
 pub beat_on-m-requires : goal.beat_on-m-requires

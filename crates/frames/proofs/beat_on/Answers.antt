@@ -8,7 +8,6 @@ use Rattle.periods.specs.Period.{beat_limit}
 use Rattle.lines.specs.Lines.{lines_of}
 use Rattle.frames.specs.Steps.{Beats}
 use Rattle.frames.proofs.Beating.{going_on, beat-long, said-to, beats-begin, beats-turn}
-use borrow.Author.Rules.{rules}
 use Rattle.frames.proofs.beat_on.Goals as goal
 
 pub loop-next-init : goal.loop-next-init

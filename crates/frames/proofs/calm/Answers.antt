@@ -8,11 +8,10 @@ use mathlib.Core.Bool.{◌||◌, false}
 use Rattle.server.specs.declared.Server.{Server}
 use Rattle.server.specs.Server.{absent}
 use Rattle.periods.specs.Period.{beat_limit}
-use Rattle.lists.proofs.Cases.{or_false, not_some}
+use Rattle.lists.proofs.Cases.{or_false}
 use Rattle.places.specs.Words.{servers_of}
 use Rattle.frames.specs.Steps.{AllWait}
 use Rattle.frames.proofs.Beating.{calm-is}
-use borrow.Author.Rules.{rules}
 use Rattle.frames.proofs.calm.Goals as goal
 
 ahead-there : (next frame limit : ℕ) → (leb next frame || ltb limit 2) ≡ false → (frame < next) × (1 < limit)

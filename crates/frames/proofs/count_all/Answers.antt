@@ -1,8 +1,6 @@
 use mathlib.Core.Bool.{false}
 use Prim.Native.Nat.{◌-◌}
-use Rattle.places.specs.Words.{servers_of}
-use Rattle.frame.specs.Answers.{state_of}
-use Rattle.frames.proofs.Playing.{Playing, play_begin, play_less, play_turn, play_end}
+use Rattle.frames.proofs.Playing.{play_begin, play_less, play_turn, play_end}
 use Rattle.frames.proofs.count_all.Goals as goal
 
 pub loop-now-init : goal.loop-now-init

@@ -2,7 +2,7 @@ use mathlib.Core.Bool.{false}
 use Prim.Native.Nat.{◌-◌}
 use Rattle.places.specs.Words.{servers_of}
 use Rattle.frame.specs.Answers.{state_of}
-use Rattle.frames.proofs.Playing.{Playing, play_begin, play_less, play_turn, play_end}
+use Rattle.frames.proofs.Playing.{Playing}
 use Rattle.frames.proofs.count_all.Given as goal
 
 abbrev pub invariant-loop-now : goal.invariant-loop-now

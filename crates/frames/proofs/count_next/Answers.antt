@@ -2,7 +2,6 @@ use native.Mathlib.Omega.{arith}
 use Rattle.places.specs.Words.{servers_of}
 use Rattle.frame.specs.Answers.{state_of}
 use Rattle.frames.proofs.Playing.{next-counted, next-none}
-use borrow.Author.Rules.{rules}
 use Rattle.frames.proofs.count_next.Goals as goal
 
 pub returns-then-frame-target : goal.returns-then-frame-target

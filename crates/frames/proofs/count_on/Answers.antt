@@ -1,7 +1,6 @@
 use Rattle.places.specs.Words.{servers_of}
 use Rattle.frame.specs.Answers.{state_of}
 use Rattle.frames.proofs.Playing.{goes_jump}
-use borrow.Author.Rules.{rules}
 use Rattle.frames.proofs.count_on.Goals as goal
 
 pub jump-start-requires : goal.jump-start-requires

@@ -1,6 +1,5 @@
 use native.Mathlib.Omega.{arith}
 use Rattle.frame.proofs.Quiet.{due-before, due-from}
-use borrow.Author.Rules.{rules}
 use Rattle.frames.proofs.due.Goals as goal
 
 pub returns-then-at-frame : goal.returns-then-at-frame

@@ -4,7 +4,6 @@ use Rattle.places.specs.Words.{servers_of}
 use Rattle.places.proofs.Words.{long_of}
 use Rattle.frame.proofs.Loud.{loud_quiet}
 use Rattle.frames.proofs.Playing.{jump_none, jump_quiet}
-use borrow.Author.Rules.{rules}
 use Rattle.frames.proofs.jump.Goals as goal
 
 pub skipped-requires : goal.skipped-requires

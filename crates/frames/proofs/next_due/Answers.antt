@@ -3,10 +3,8 @@ use Prim.Native.Nat.{◌-◌}
 use native.Mathlib.Omega.{arith}
 use Rattle.server.specs.declared.Server.{Server}
 use Rattle.frame.specs.Steps.{Rests}
-use Rattle.places.specs.Words.{servers_of}
-use Rattle.frame.proofs.Quiet.{Resting, rest-begin, rest-turn}
+use Rattle.frame.proofs.Quiet.{rest-begin, rest-turn}
 use Rattle.frame.proofs.Still.{still-begin, rest-early}
-use borrow.Author.Rules.{rules}
 use Rattle.frames.proofs.next_due.Goals as goal
 
 pub loop-i-init : goal.loop-i-init

@@ -1,12 +1,6 @@
-use mathlib.Core.Path.{subst}
 use Prim.Native.Nat.{◌-◌}
-use native.Mathlib.Omega.{arith}
-use Rattle.server.specs.declared.Server.{Server}
-use Rattle.frame.specs.Steps.{Rests}
 use Rattle.places.specs.Words.{servers_of}
-use Rattle.frame.proofs.Quiet.{Resting, rest-begin, rest-turn}
-use Rattle.frame.proofs.Still.{still-begin, rest-early}
-use borrow.Author.Rules.{rules}
+use Rattle.frame.proofs.Quiet.{Resting}
 use Rattle.frames.proofs.next_due.Given as goal
 
 abbrev pub invariant-loop-i : goal.invariant-loop-i

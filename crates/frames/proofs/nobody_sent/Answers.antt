@@ -1,10 +1,9 @@
 use mathlib.Core.Path.{refl, sym}
 use Prim.Native.Nat.{◌-◌}
 use native.Mathlib.Omega.{arith}
-use Rattle.lists.proofs.Cases.{clash, not_some}
-use Rattle.places.specs.Words.{servers_of}
+use Rattle.lists.proofs.Cases.{clash}
 use Rattle.frame.proofs.Still.{still-begin}
-use Rattle.frame.proofs.Loud.{Louder, loud_begin, loud_turn, loud_end}
+use Rattle.frame.proofs.Loud.{loud_begin, loud_turn, loud_end}
 use Rattle.frames.proofs.nobody_sent.Goals as goal
 
 pub loop-i-init : goal.loop-i-init

@@ -6,7 +6,6 @@ use Rattle.places.specs.Words.{servers_of}
 use Rattle.places.proofs.Words.{long_of}
 use Rattle.frame.proofs.Loud.{loud_quiet}
 use Rattle.frames.proofs.Playing.{jump_quiet}
-use borrow.Author.Rules.{rules}
 use Rattle.frames.proofs.nothing_until.Goals as goal
 
 pub returns-then-frame-target : goal.returns-then-frame-target

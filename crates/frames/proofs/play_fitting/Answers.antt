@@ -3,7 +3,6 @@ use Rattle.places.specs.Words.{servers_of}
 use Rattle.frame.specs.Answers.{state_of}
 use Rattle.frames.proofs.Moving.{moves-one, moves_not}
 use Rattle.frames.proofs.Fitting.{fares_one, fares_not}
-use borrow.Author.Rules.{rules}
 use Rattle.frames.proofs.play_fitting.Goals as goal
 
 pub overflow_add-result : goal.overflow_add-result

@@ -1,13 +1,9 @@
 use mathlib.Core.Path.{◌≡◌, ◌∙◌, ap}
-use Prim.Native.Nat.{◌+◌, ◌-◌}
+use Prim.Native.Nat.{◌-◌}
 use native.Mathlib.Omega.{arith}
 use lib.ListN.{length}
-use Rattle.lists.specs.Choice.{choose}
-use Rattle.places.specs.Words.{servers_of}
-use Rattle.frame.specs.Answers.{state_of}
-use Rattle.frames.specs.Steps.{Moves}
 use Rattle.frames.proofs.Moving.{moves-none, moves-then}
-use Rattle.frames.proofs.Fitting.{Within, going, within-begin, within-turn, within-less, within_end}
+use Rattle.frames.proofs.Fitting.{going, within-begin, within-turn, within-less, within_end}
 use borrow.Author.Rules.{rules}
 use Rattle.frames.proofs.play_within.Goals as goal
 

@@ -1,14 +1,11 @@
-use mathlib.Core.Path.{◌≡◌, ◌∙◌, ap}
+use mathlib.Core.Path.{◌≡◌}
 use Prim.Native.Nat.{◌+◌, ◌-◌}
-use native.Mathlib.Omega.{arith}
 use lib.ListN.{length}
 use Rattle.lists.specs.Choice.{choose}
 use Rattle.places.specs.Words.{servers_of}
 use Rattle.frame.specs.Answers.{state_of}
 use Rattle.frames.specs.Steps.{Moves}
-use Rattle.frames.proofs.Moving.{moves-none, moves-then}
-use Rattle.frames.proofs.Fitting.{Within, going, within-begin, within-turn, within-less, within_end}
-use borrow.Author.Rules.{rules}
+use Rattle.frames.proofs.Fitting.{Within}
 use Rattle.frames.proofs.play_within.Given as goal
 
 abbrev pub invariant-loop-now : goal.invariant-loop-now

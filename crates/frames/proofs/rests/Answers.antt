@@ -3,7 +3,6 @@ use mathlib.Core.Path.{◌≡◌, refl, subst}
 use Prim.Native.Nat.{ℕ}
 use lib.Dec.{eqb, ltb}
 use Rattle.frame.proofs.Quiet.{rests-each}
-use borrow.Author.Rules.{rules}
 use Rattle.frames.proofs.rests.Goals as goal
 
 pub returns : goal.returns

@@ -9,7 +9,6 @@ use Rattle.frame.proofs.Telling.{within, too_short, told-all}
 use Rattle.places.proofs.Canonical.{keeps-all}
 use Rattle.frames.proofs.Moving.{answered, accepted-not}
 use Rattle.frames.proofs.Fitting.{all-within}
-use borrow.Author.Rules.{rules}
 use Rattle.frames.proofs.run.Goals as goal
 
 pub returns-then-counted-out : goal.returns-then-counted-out

@@ -5,7 +5,6 @@ use Rattle.frame.specs.Answers.{state_of}
 use Rattle.places.proofs.Canonical.{keeps-all}
 use Rattle.frames.proofs.Moving.{answered, accepted-not}
 use Rattle.frames.proofs.Fitting.{no_frame, within-short, within-fits, quiet-fits}
-use borrow.Author.Rules.{rules}
 use Rattle.frames.proofs.run_within.Goals as goal
 
 pub returns-then-nothing_until : goal.returns-then-nothing_until

@@ -1,6 +1,4 @@
-use native.Mathlib.Omega.{arith}
 use Rattle.places.proofs.Words.{unsent-at}
-use borrow.Author.Rules.{rules}
 use Rattle.frames.proofs.sent_none.Goals as goal
 
 pub returns : goal.returns

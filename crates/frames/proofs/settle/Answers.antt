@@ -7,7 +7,7 @@ use Rattle.lists.proofs.MapLoop.{Mapped}
 use Rattle.lists.proofs.MapLoop as map
 use Rattle.server.specs.declared.Server.{Server}
 use Rattle.server.specs.Server.{absent}
-use Rattle.places.specs.Words.{servers_of, Keeps}
+use Rattle.places.specs.Words.{servers_of}
 use Rattle.frames.specs.Steps.{pulsed}
 use Rattle.places.proofs.Words.{long_of}
 use Rattle.places.proofs.Canonical.{keeps-all, keeps_then}

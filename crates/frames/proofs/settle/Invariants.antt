@@ -1,16 +1,7 @@
-use mathlib.Core.Path.{refl, subst, sym, ap, ◌∙◌}
-use mathlib.Core.List.{List}
-use Prim.Native.Nat.{◌+◌, ◌-◌, ◌<◌}
-use native.Mathlib.Omega.{arith}
-use lib.ListN.{set}
+use Prim.Native.Nat.{◌-◌}
 use Rattle.lists.proofs.MapLoop.{Mapped}
-use Rattle.lists.proofs.MapLoop as map
-use Rattle.server.specs.declared.Server.{Server}
-use Rattle.server.specs.Server.{absent}
 use Rattle.places.specs.Words.{servers_of, Keeps}
 use Rattle.frames.specs.Steps.{pulsed}
-use Rattle.places.proofs.Words.{long_of}
-use Rattle.places.proofs.Canonical.{keeps-all, keeps_then}
 use Rattle.frames.proofs.settle.Given as goal
 
 abbrev pub invariant-loop-i : goal.invariant-loop-i

@@ -12,7 +12,6 @@ use Rattle.places.specs.Words.{servers_of}
 use Rattle.places.specs.Roles.{is_backup}
 use Rattle.places.proofs.Words.{silence-is, beat-is}
 use Rattle.places.proofs.Canonical.{keeps-all, timer-keeps}
-use borrow.Author.Rules.{rules}
 use Rattle.frames.proofs.settle_at.Goals as goal
 
 pub overflow_mul-words : goal.overflow_mul-words

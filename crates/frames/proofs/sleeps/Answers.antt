@@ -1,4 +1,3 @@
-use native.Mathlib.Omega.{arith}
 use Rattle.frames.proofs.Beating.{asleep}
 use Rattle.frames.proofs.sleeps.Goals as goal
 

@@ -3,7 +3,6 @@ use Rattle.places.specs.Words.{servers_of}
 use Rattle.frame.specs.Answers.{state_of}
 use Rattle.frames.proofs.Moving.{moves-none, moves-then}
 use Rattle.frames.proofs.Fitting.{stretch_fares, stretch_jump}
-use borrow.Author.Rules.{rules}
 use Rattle.frames.proofs.stretch.Goals as goal
 
 pub jump-start-requires : goal.jump-start-requires

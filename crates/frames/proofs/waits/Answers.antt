@@ -4,7 +4,6 @@ use Prim.Native.Nat.{ℕ, ◌+◌}
 use Rattle.lists.proofs.Cases.{fst_true, snd_true}
 use Rattle.frame.specs.Steps.{NotDue}
 use Rattle.frame.proofs.Hearings.{backup_is}
-use borrow.Author.Rules.{rules}
 use Rattle.frames.proofs.waits.Goals as goal
 
 pub returns-then-is_backup : goal.returns-then-is_backup

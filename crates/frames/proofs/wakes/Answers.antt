@@ -1,5 +1,4 @@
 use Rattle.frame.proofs.Quiet.{rests-down, rests-idle, rests-sync, rests_backup, rests-primary, rests_prospect, earlier_left, earlier_right}
-use borrow.Author.Rules.{rules}
 use Rattle.frames.proofs.wakes.Goals as goal
 
 pub returns-in-Down : goal.returns-in-Down

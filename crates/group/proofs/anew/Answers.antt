@@ -1,4 +1,3 @@
-use borrow.Author.Rules.{rules}
 use Rattle.group.specs.Table.{anew}
 use Rattle.group.proofs.anew.Goals as goal
 

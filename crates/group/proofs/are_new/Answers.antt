@@ -1,9 +1,8 @@
 use mathlib.Core.Path.{sym, ◌∙◌}
 use Prim.Native.Nat.{◌-◌}
-use native.Mathlib.Omega.{arith}
 use borrow.Author.Rules.{rules}
-use Rattle.lists.proofs.Cases.{not_so, not_some, length_mapped}
-use Rattle.lists.proofs.EachLoop.{Passed, test-begin, test-turn, test-fails, test-end}
+use Rattle.lists.proofs.Cases.{length_mapped}
+use Rattle.lists.proofs.EachLoop.{test-begin, test-turn, test-fails, test-end}
 use Rattle.server.specs.Server.{absent}
 use Rattle.group.specs.Table.{is_new}
 use Rattle.group.proofs.are_new.Goals as goal

@@ -2,7 +2,7 @@ use Prim.Native.Nat.{◌-◌}
 use native.Mathlib.Omega.{arith}
 use borrow.Author.Rules.{rules}
 use Rattle.lists.proofs.Cases.{length_mapped}
-use Rattle.group.proofs.Tables.{Counting, count-begin, count_turn, count-end}
+use Rattle.group.proofs.Tables.{count-begin, count_turn, count-end}
 use Rattle.group.proofs.count.Goals as goal
 
 pub loop-i-init : goal.loop-i-init

@@ -1,8 +1,5 @@
 use Prim.Native.Nat.{◌-◌}
-use native.Mathlib.Omega.{arith}
-use borrow.Author.Rules.{rules}
-use Rattle.lists.proofs.Cases.{length_mapped}
-use Rattle.group.proofs.Tables.{Counting, count-begin, count_turn, count-end}
+use Rattle.group.proofs.Tables.{Counting}
 use Rattle.group.proofs.count.Given as goal
 
 abbrev pub invariant-loop-i : goal.invariant-loop-i

@@ -1,8 +1,7 @@
 use Prim.Native.Nat.{◌-◌}
-use native.Mathlib.Omega.{arith}
 use borrow.Author.Rules.{rules}
 use Rattle.lists.proofs.Cases.{length_mapped}
-use Rattle.group.proofs.Tables.{Entering, enter-begin, enter-turn, enter-end}
+use Rattle.group.proofs.Tables.{enter-begin, enter-turn, enter-end}
 use Rattle.group.proofs.enter.Goals as goal
 
 pub loop-i-init : goal.loop-i-init

@@ -1,8 +1,5 @@
 use Prim.Native.Nat.{◌-◌}
-use native.Mathlib.Omega.{arith}
-use borrow.Author.Rules.{rules}
-use Rattle.lists.proofs.Cases.{length_mapped}
-use Rattle.group.proofs.Tables.{Entering, enter-begin, enter-turn, enter-end}
+use Rattle.group.proofs.Tables.{Entering}
 use Rattle.group.proofs.enter.Given as goal
 
 abbrev pub invariant-loop-i : goal.invariant-loop-i

@@ -1,4 +1,3 @@
-use borrow.Author.Rules.{rules}
 use Rattle.group.specs.Table.{is_new}
 use Rattle.group.proofs.is_new.Goals as goal
 

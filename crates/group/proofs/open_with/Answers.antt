@@ -1,7 +1,5 @@
 use mathlib.Core.Path.{◌∙◌, sym}
 use native.Mathlib.Omega.{arith}
-use borrow.Author.Rules.{rules}
-use Rattle.lists.proofs.Cases.{not_so, not_some}
 use Rattle.refusal.specs.declared.Refusal.TheVariants.{Number, Servers, Period}
 use Rattle.group.proofs.Opening.{opens_not, no_table, nobody, too_many, enough, opens}
 use Rattle.group.proofs.open_with.Goals as goal

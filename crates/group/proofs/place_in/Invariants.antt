@@ -1,12 +1,7 @@
 -- The loop's invariant: no place before i has the identity.
-use mathlib.Core.Path.{sym, ◌∙◌}
 use Prim.Native.Nat.{◌-◌}
-use native.Mathlib.Omega.{arith}
-use borrow.Author.Rules.{rules}
-use Rattle.lists.proofs.Cases.{length_mapped}
 use Rattle.lists.proofs.FindLoop as search-loop
-use Rattle.server.specs.Server.{absent}
-use Rattle.group.specs.Table.{named, place_in}
+use Rattle.group.specs.Table.{named}
 use Rattle.group.proofs.place_in.Given as goal
 
 abbrev pub invariant-loop-place : goal.invariant-loop-place

@@ -1,9 +1,7 @@
-use mathlib.Core.Path.{sym, ◌∙◌}
 use Prim.Native.Nat.{◌-◌}
-use native.Mathlib.Omega.{arith}
 use borrow.Author.Rules.{rules}
 use Rattle.lists.proofs.Cases.{length_mapped}
-use Rattle.group.proofs.Tables.{Climbing, climb_begin, climb_turn, climb_end}
+use Rattle.group.proofs.Tables.{climb_begin, climb_turn, climb_end}
 use Rattle.group.proofs.rise.Goals as goal
 
 pub bounds-servers-0 : goal.bounds-servers-0

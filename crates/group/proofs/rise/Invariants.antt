@@ -1,9 +1,5 @@
-use mathlib.Core.Path.{sym, ◌∙◌}
 use Prim.Native.Nat.{◌-◌}
-use native.Mathlib.Omega.{arith}
-use borrow.Author.Rules.{rules}
-use Rattle.lists.proofs.Cases.{length_mapped}
-use Rattle.group.proofs.Tables.{Climbing, climb_begin, climb_turn, climb_end}
+use Rattle.group.proofs.Tables.{Climbing}
 use Rattle.group.proofs.rise.Given as goal
 
 abbrev pub invariant-loop-i : goal.invariant-loop-i

@@ -1,5 +1,4 @@
 use mathlib.Core.Path.{ap, ◌∙◌}
-use borrow.Author.Rules.{rules}
 use Rattle.refusal.specs.declared.Verdict.TheVariants.{Refused}
 use Rattle.lists.specs.Choice.{choose}
 use Rattle.group.specs.declared.State.{State}

@@ -1,7 +1,6 @@
 use mathlib.Core.Path.{sym, ap, ap₂, ◌∙◌}
 use mathlib.Core.List.{[], ◌∷◌}
 use native.Mathlib.Omega.{arith}
-use borrow.Author.Rules.{rules}
 use Rattle.refusal.specs.Answer.{in_turn}
 use Rattle.text.specs.Number.{of_number, read_number}
 use Rattle.text.proofs.Reading.{number-within}

@@ -1,6 +1,5 @@
 use mathlib.Core.Path.{sym, ap, ap₂, ◌∙◌}
 use native.Mathlib.Omega.{arith}
-use borrow.Author.Rules.{rules}
 use Rattle.refusal.specs.Answer.{in_turn, number_of}
 use Rattle.text.specs.Number.{of_number, read_number}
 use Rattle.text.proofs.Reading.{number-within}

@@ -1,8 +1,6 @@
 use native.Mathlib.Omega.{arith}
-use Rattle.roles.specs.declared.Word.TheVariants as word
 use Rattle.roles.specs.Words.{word_bytes}
 use Rattle.lines.proofs.Pieces.{few, line-long, word_short}
-use borrow.Author.Rules.{rules}
 use Rattle.lines.proofs.line_length.Goals as goal
 
 pub overflow_add-result : goal.overflow_add-result

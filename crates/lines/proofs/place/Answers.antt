@@ -3,7 +3,6 @@ use mathlib.Core.Path.{sym, ◌∙◌}
 use native.Mathlib.Omega.{arith}
 use borrow.Author.Tests.{leb-true}
 use Rattle.lists.proofs.Cases.{chosen, other}
-use borrow.Author.Rules.{rules}
 use Rattle.lines.proofs.place.Goals as goal
 
 pub overflow_add-result : goal.overflow_add-result

@@ -1,4 +1,3 @@
-use borrow.Author.Rules.{rules}
 use Rattle.lines.proofs.Puts.{writes-part}
 use Rattle.lines.proofs.put_bytes.Goals as goal
 

@@ -2,7 +2,6 @@ use native.Mathlib.Omega.{arith}
 use Rattle.roles.specs.Words.{word_bytes}
 use Rattle.lines.proofs.Pieces.{line-long}
 use Rattle.lines.proofs.Puts.{tab-room, digits-room, end-room, line-put}
-use borrow.Author.Rules.{rules}
 use Rattle.lines.proofs.put_line.Goals as goal
 
 pub put_bytes-a-requires : goal.put_bytes-a-requires

@@ -1,5 +1,4 @@
 use Rattle.text.proofs.Writing.{not_short}
-use borrow.Author.Rules.{rules}
 use Rattle.lines.proofs.put_number.Goals as goal
 
 pub returns-in-To : goal.returns-in-To

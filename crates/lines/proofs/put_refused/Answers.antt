@@ -1,6 +1,5 @@
 use Rattle.text.proofs.Writing.{first_piece, chain}
 use Rattle.lines.proofs.Pieces.{refused-pieces}
-use borrow.Author.Rules.{rules}
 use Rattle.lines.proofs.put_refused.Goals as goal
 
 pub returns : goal.returns

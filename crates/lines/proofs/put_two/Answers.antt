@@ -3,7 +3,6 @@ use lib.ListN.{length-append}
 use Rattle.roles.specs.Words.{word_bytes}
 use Rattle.lines.specs.Lines.{line}
 use Rattle.lines.proofs.Puts.{room, then}
-use borrow.Author.Rules.{rules}
 use Rattle.lines.proofs.put_two.Goals as goal
 
 pub put_line-next-requires : goal.put_line-next-requires

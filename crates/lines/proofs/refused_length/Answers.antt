@@ -3,7 +3,6 @@ use lib.ListN.{length-append}
 use Rattle.text.specs.Digits.{digits}
 use Rattle.text.specs.Words.{bytes}
 use Rattle.lines.proofs.Pieces.{few}
-use borrow.Author.Rules.{rules}
 use Rattle.lines.proofs.refused_length.Goals as goal
 
 pub overflow_add-result : goal.overflow_add-result

@@ -3,7 +3,6 @@ use native.Mathlib.Omega.{arith}
 use lib.ListN.{length-append}
 use Rattle.roles.specs.Words.{word_bytes}
 use Rattle.lines.specs.Lines.{line, lines_of}
-use borrow.Author.Rules.{rules}
 use Rattle.lines.proofs.said_length.Goals as goal
 
 pub overflow_add-result : goal.overflow_add-result

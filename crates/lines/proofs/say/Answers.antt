@@ -1,5 +1,4 @@
 use Rattle.lines.proofs.Saying.{says-dry}
-use borrow.Author.Rules.{rules}
 use Rattle.lines.proofs.say.Goals as goal
 
 pub returns-then-wet : goal.returns-then-wet

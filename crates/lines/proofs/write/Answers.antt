@@ -1,7 +1,6 @@
 use mathlib.Core.Path.{refl}
 use Rattle.lines.specs.Lines.{lines_of}
 use Rattle.lines.proofs.Saying.{says_nothing}
-use borrow.Author.Rules.{rules}
 use Rattle.lines.proofs.write.Goals as goal
 
 pub returns-in-Nothing : goal.returns-in-Nothing

@@ -4,7 +4,6 @@ use native.Mathlib.Omega.{arith}
 use borrow.Author.Tests.{leb-true, leb-false}
 use lib.ListN.{length}
 use Rattle.lines.proofs.Saying.{says, says-not}
-use borrow.Author.Rules.{rules}
 use Rattle.lines.proofs.write_one.Goals as goal
 
 pub put_line-requires : goal.put_line-requires

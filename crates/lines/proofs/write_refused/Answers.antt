@@ -6,7 +6,6 @@ use lib.ListN.{length}
 use Rattle.text.proofs.Writing.{whole, writes_short}
 use Rattle.lines.specs.Lines.{refused_word}
 use Rattle.lines.proofs.Pieces.{line-long}
-use borrow.Author.Rules.{rules}
 use Rattle.lines.proofs.write_refused.Goals as goal
 
 pub returns-then-fits : goal.returns-then-fits

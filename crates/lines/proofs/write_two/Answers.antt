@@ -6,7 +6,6 @@ use lib.ListN.{length, length-append}
 use Rattle.roles.specs.Words.{word_bytes}
 use Rattle.lines.specs.Lines.{line}
 use Rattle.lines.proofs.Saying.{says, says-not}
-use borrow.Author.Rules.{rules}
 use Rattle.lines.proofs.write_two.Goals as goal
 
 pub overflow_add-n : goal.overflow_add-n

@@ -2,7 +2,6 @@ use mathlib.Core.Path.{ap₂, ◌∙◌}
 use mathlib.Core.Bool.{Bool, not, ◌&&◌}
 use Rattle.server.specs.Server.{sent_any}
 use Rattle.places.proofs.Roles.{still-by}
-use borrow.Author.Rules.{rules}
 use Rattle.places.proofs.is_still.Goals as goal
 
 pub returns : goal.returns

@@ -1,11 +1,9 @@
 use Prim.Native.Nat.{◌-◌}
 use mathlib.Core.Path.{◌∙◌, sym, ap}
 use native.Mathlib.Omega.{arith}
-use borrow.Author.Rules.{rules}
 use Rattle.lists.proofs.FindLoop as search-loop
 use Rattle.server.specs.Server.{absent}
 use Rattle.group.specs.Table.{named, place_in}
-use Rattle.places.specs.Words.{servers_of}
 use Rattle.places.proofs.Words.{long_of}
 use Rattle.places.proofs.place_in.Goals as goal
 

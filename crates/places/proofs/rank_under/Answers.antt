@@ -1,7 +1,6 @@
 use mathlib.Core.Path.{sym, ◌∙◌}
 use borrow.Author.Tests.{lt-ltb, le-ltb}
 use Rattle.lists.proofs.Cases.{chosen, other}
-use borrow.Author.Rules.{rules}
 use Rattle.places.proofs.rank_under.Goals as goal
 
 pub returns-then-last-lt-SERVERS : goal.returns-then-last-lt-SERVERS

@@ -2,7 +2,6 @@ use Rattle.lists.proofs.Cases.{bit-small}
 use native.Mathlib.Omega.{arith}
 use mathlib.Core.Path.{ap}
 use Prim.Native.Nat.{ℕ, ◌+◌, ◌*◌}
-use borrow.Author.Rules.{rules}
 use Rattle.places.proofs.sending_number.Goals as goal
 
 pub overflow_add-result : goal.overflow_add-result

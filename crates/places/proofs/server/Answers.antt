@@ -4,7 +4,6 @@ use mathlib.Core.Path.{◌∙◌, sym}
 use native.Mathlib.Omega.{arith}
 use lib.ListN.{get_or-eq_default}
 use Rattle.places.proofs.Words.{long_of}
-use borrow.Author.Rules.{rules}
 use Rattle.places.proofs.server.Goals as goal
 
 pub returns-then-i-lt-SERVERS : goal.returns-then-i-lt-SERVERS

@@ -1,8 +1,6 @@
 use mathlib.Core.Path.{sym, ◌∙◌}
-use native.Mathlib.Omega.{arith}
 use Rattle.server.specs.Server.{absent}
 use Rattle.places.proofs.Words.{at_of}
-use borrow.Author.Rules.{rules}
 use Rattle.places.proofs.server_at.Goals as goal
 
 pub returns : goal.returns

@@ -1,6 +1,4 @@
-use native.Mathlib.Omega.{arith}
 use Rattle.places.specs.Words.{server_of}
-use borrow.Author.Rules.{rules}
 use Rattle.places.proofs.server_of.Goals as goal
 
 pub returns : goal.returns

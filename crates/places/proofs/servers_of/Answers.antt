@@ -1,8 +1,6 @@
 use Prim.Native.Nat.{◌-◌}
-use native.Mathlib.Omega.{arith}
 use Rattle.lists.proofs.Cases.{length_mapped}
-use Rattle.places.specs.Words.{servers_of}
-use Rattle.places.proofs.Words.{Alike, alike-begin, alike-turn, alike_end, long_of}
+use Rattle.places.proofs.Words.{alike-begin, alike-turn, alike_end, long_of}
 use borrow.Author.Rules.{rules}
 use Rattle.places.proofs.servers_of.Goals as goal
 

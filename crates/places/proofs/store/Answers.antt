@@ -1,10 +1,8 @@
 use mathlib.Core.Path.{◌≡◌, ap₂, ◌∙◌}
 use Prim.Native.Nat.{ℕ, ◌+◌, ◌*◌}
 use native.Mathlib.Omega.{arith}
-use lib.ListN.{length}
 use Rattle.places.specs.Words.{head_number}
 use Rattle.places.proofs.Words.{put5, spliced, role-small}
-use borrow.Author.Rules.{rules}
 use Rattle.places.proofs.store.Goals as goal
 
 pub overflow_mul-head : goal.overflow_mul-head

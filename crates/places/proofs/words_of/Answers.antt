@@ -2,7 +2,7 @@ use mathlib.Core.Path.{refl}
 use Prim.Native.Nat.{◌-◌}
 use native.Mathlib.Omega.{arith}
 use Rattle.lists.proofs.Cases.{length_mapped}
-use Rattle.places.proofs.Words.{Stored, stored-begin, stored-turn, stored-end}
+use Rattle.places.proofs.Words.{stored-begin, stored-turn, stored-end}
 use borrow.Author.Rules.{rules}
 use Rattle.places.proofs.words_of.Goals as goal
 

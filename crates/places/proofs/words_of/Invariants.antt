@@ -1,9 +1,5 @@
-use mathlib.Core.Path.{refl}
 use Prim.Native.Nat.{◌-◌}
-use native.Mathlib.Omega.{arith}
-use Rattle.lists.proofs.Cases.{length_mapped}
-use Rattle.places.proofs.Words.{Stored, stored-begin, stored-turn, stored-end}
-use borrow.Author.Rules.{rules}
+use Rattle.places.proofs.Words.{Stored}
 use Rattle.places.proofs.words_of.Given as goal
 
 abbrev pub invariant-loop-i : goal.invariant-loop-i

@@ -1,10 +1,9 @@
 use mathlib.Core.Path.{sym, ◌∙◌}
-use Rattle.lists.proofs.Cases.{not_so, not_some, length_mapped}
+use Rattle.lists.proofs.Cases.{length_mapped}
 use Prim.Native.Nat.{◌-◌}
-use native.Mathlib.Omega.{arith}
 use borrow.Author.Rules.{rules}
 use Rattle.plain.specs.Numbers.{is_bit}
-use Rattle.lists.proofs.EachLoop.{Passed, test-begin, test-turn, test-fails, test-end}
+use Rattle.lists.proofs.EachLoop.{test-begin, test-turn, test-fails, test-end}
 use Rattle.plain.proofs.are_bits.Goals as goal
 
 pub loop-i-init : goal.loop-i-init

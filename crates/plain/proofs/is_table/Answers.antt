@@ -1,8 +1,5 @@
 use mathlib.Core.Bool.{Bool, ◌&&◌}
-use mathlib.Core.List.{List}
 use mathlib.Core.Path.{ap, ap₂, ◌∙◌}
-use borrow.Author.Rules.{rules}
-use Rattle.server.specs.declared.Server.{Server}
 use Rattle.group.specs.Table.{is_table}
 use Rattle.plain.proofs.is_table.Goals as goal
 

@@ -1,10 +1,8 @@
 use mathlib.Core.Path.{refl}
 use Prim.Native.Nat.{◌-◌}
-use native.Mathlib.Omega.{arith}
 use borrow.Author.Rules.{rules}
 use Rattle.lists.proofs.Cases.{length_mapped}
-use Rattle.plain.specs.Plain.{bit_of}
-use Rattle.lists.proofs.EachLoop.{Made, make_begin, make_turn, make_end}
+use Rattle.lists.proofs.EachLoop.{make_begin, make_turn, make_end}
 use Rattle.plain.proofs.links_of.Goals as goal
 
 pub loop-i-init : goal.loop-i-init

@@ -1,10 +1,6 @@
-use mathlib.Core.Path.{refl}
 use Prim.Native.Nat.{◌-◌}
-use native.Mathlib.Omega.{arith}
-use borrow.Author.Rules.{rules}
-use Rattle.lists.proofs.Cases.{length_mapped}
 use Rattle.plain.specs.Plain.{bit_of}
-use Rattle.lists.proofs.EachLoop.{Made, make_begin, make_turn, make_end}
+use Rattle.lists.proofs.EachLoop.{Made}
 use Rattle.plain.proofs.links_of.Given as goal
 
 abbrev pub invariant-loop-i : goal.invariant-loop-i

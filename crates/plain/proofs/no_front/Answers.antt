@@ -1,4 +1,3 @@
-use borrow.Author.Rules.{rules}
 use Rattle.plain.proofs.no_front.Goals as goal
 
 pub returns : goal.returns

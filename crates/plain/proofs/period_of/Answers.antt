@@ -1,7 +1,6 @@
 use mathlib.Core.Path.{sym, ap, ◌∙◌}
 use Rattle.periods.specs.Period.{of_period}
 use Rattle.plain.proofs.Periods.{period-made, period-refused}
-use borrow.Author.Rules.{rules}
 use Rattle.plain.proofs.period_of.Goals as goal
 
 pub returns-in-Is : goal.returns-in-Is

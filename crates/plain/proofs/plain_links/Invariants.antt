@@ -1,10 +1,7 @@
 use mathlib.Core.Bool.{false}
 use Prim.Native.Nat.{◌-◌}
-use native.Mathlib.Omega.{arith}
-use borrow.Author.Rules.{rules}
-use Rattle.lists.proofs.Cases.{length_mapped}
 use Rattle.plain.specs.Plain.{plain_bit}
-use Rattle.lists.proofs.EachLoop.{Made, make_begin, make_turn, make_end}
+use Rattle.lists.proofs.EachLoop.{Made}
 use Rattle.plain.proofs.plain_links.Given as goal
 
 abbrev pub invariant-loop-i : goal.invariant-loop-i

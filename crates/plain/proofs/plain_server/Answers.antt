@@ -1,6 +1,5 @@
 use native.Mathlib.Omega.{arith}
 use Rattle.places.proofs.Words.{role-small}
-use borrow.Author.Rules.{rules}
 use Rattle.plain.proofs.plain_server.Goals as goal
 
 pub overflow_cast-result : goal.overflow_cast-result

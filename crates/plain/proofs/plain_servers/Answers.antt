@@ -1,10 +1,7 @@
 use Prim.Native.Nat.{◌-◌}
-use native.Mathlib.Omega.{arith}
 use borrow.Author.Rules.{rules}
 use Rattle.lists.proofs.Cases.{length_mapped}
-use Rattle.server.specs.Server.{absent}
-use Rattle.plain.specs.Plain.{plain_server}
-use Rattle.lists.proofs.EachLoop.{Made, make_begin, make_turn, make_end}
+use Rattle.lists.proofs.EachLoop.{make_begin, make_turn, make_end}
 use Rattle.plain.proofs.plain_servers.Goals as goal
 
 pub loop-i-init : goal.loop-i-init

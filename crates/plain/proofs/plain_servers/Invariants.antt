@@ -1,10 +1,7 @@
 use Prim.Native.Nat.{◌-◌}
-use native.Mathlib.Omega.{arith}
-use borrow.Author.Rules.{rules}
-use Rattle.lists.proofs.Cases.{length_mapped}
 use Rattle.server.specs.Server.{absent}
 use Rattle.plain.specs.Plain.{plain_server}
-use Rattle.lists.proofs.EachLoop.{Made, make_begin, make_turn, make_end}
+use Rattle.lists.proofs.EachLoop.{Made}
 use Rattle.plain.proofs.plain_servers.Given as goal
 
 abbrev pub invariant-loop-i : goal.invariant-loop-i

@@ -1,5 +1,4 @@
 use mathlib.Core.Path.{ap, ◌∙◌}
-use borrow.Author.Rules.{rules}
 use Rattle.group.specs.Table.{table_with}
 use Rattle.plain.proofs.table_of.Goals as goal
 

@@ -1,5 +1,4 @@
 use Rattle.playout.proofs.Fronts.{acts_well, acts-ill}
-use borrow.Author.Rules.{rules}
 use Rattle.playout.proofs.acted.Goals as goal
 
 pub returns-then-is_front-is_verb : goal.returns-then-is_front-is_verb

@@ -1,5 +1,4 @@
 use Rattle.playout.proofs.Fronts.{act-of}
-use borrow.Author.Rules.{rules}
 use Rattle.playout.proofs.acts.Goals as goal
 
 pub returns : goal.returns

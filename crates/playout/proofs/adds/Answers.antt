@@ -1,6 +1,5 @@
 use mathlib.Core.Path.{ap, ◌∙◌}
 use Rattle.plain.specs.Plain.{plain_table}
-use borrow.Author.Rules.{rules}
 use Rattle.playout.proofs.adds.Goals as goal
 
 pub returns : goal.returns

@@ -1,5 +1,4 @@
 use Rattle.playout.proofs.Fronts.{begin-of}
-use borrow.Author.Rules.{rules}
 use Rattle.playout.proofs.begins.Goals as goal
 
 pub returns : goal.returns

@@ -1,6 +1,5 @@
 use mathlib.Core.Path.{sym, ◌∙◌}
 use Rattle.playout.proofs.Fronts.{begins_well, begins-ill}
-use borrow.Author.Rules.{rules}
 use Rattle.playout.proofs.begun.Goals as goal
 
 pub returns-then-is_front : goal.returns-then-is_front

@@ -1,6 +1,5 @@
 use mathlib.Core.Path.{ap, ◌∙◌}
 use Rattle.channel.specs.Answers.{state}
-use borrow.Author.Rules.{rules}
 use Rattle.playout.proofs.channel_from.Goals as goal
 
 pub returns : goal.returns

@@ -1,5 +1,4 @@
 use Rattle.playout.proofs.Fronts.{hears_well_lem, hears-ill}
-use borrow.Author.Rules.{rules}
 use Rattle.playout.proofs.heard.Goals as goal
 
 pub returns-then-is_front-is_heartbeat : goal.returns-then-is_front-is_heartbeat

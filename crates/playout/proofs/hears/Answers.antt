@@ -1,4 +1,3 @@
-use borrow.Author.Rules.{rules}
 use Rattle.playout.proofs.hears.Goals as goal
 
 pub returns : goal.returns

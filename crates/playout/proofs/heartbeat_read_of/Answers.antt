@@ -1,4 +1,3 @@
-use borrow.Author.Rules.{rules}
 use Rattle.playout.proofs.heartbeat_read_of.Goals as goal
 
 pub returns-in-Is : goal.returns-in-Is

@@ -1,6 +1,5 @@
 use mathlib.Core.Path.{◌∙◌}
 use Rattle.playout.proofs.Channels.{opened_zero, opened_some}
-use borrow.Author.Rules.{rules}
 use Rattle.playout.proofs.opened_as.Goals as goal
 
 pub returns-then-number-eq0 : goal.returns-then-number-eq0

@@ -1,6 +1,5 @@
 use mathlib.Core.Path.{◌∙◌}
 use Rattle.playout.proofs.Channels.{open_of}
-use borrow.Author.Rules.{rules}
 use Rattle.playout.proofs.opens.Goals as goal
 
 pub returns : goal.returns

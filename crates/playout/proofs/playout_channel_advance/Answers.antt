@@ -1,7 +1,6 @@
 use mathlib.Core.Path.{sym, ◌∙◌}
 use Rattle.group.specs.Advance.{step_outcome}
 use Rattle.playout.proofs.Channels.{gives_of, answers_well, answers-ill}
-use borrow.Author.Rules.{rules}
 use Rattle.playout.proofs.playout_channel_advance.Goals as goal
 
 pub returns-then-is_channel : goal.returns-then-is_channel

@@ -1,6 +1,5 @@
 use mathlib.Core.Path.{sym, ◌∙◌}
 use Rattle.playout.proofs.Channels.{opens_well, opens-ill}
-use borrow.Author.Rules.{rules}
 use Rattle.playout.proofs.playout_channel_fresh.Goals as goal
 
 pub returns-then-is_table : goal.returns-then-is_table

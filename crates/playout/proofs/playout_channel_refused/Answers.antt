@@ -1,7 +1,6 @@
 use mathlib.Core.Path.{sym, ◌∙◌}
 use Rattle.lists.proofs.Cases.{and_left}
 use Rattle.playout.proofs.Writings.{puts_and, puts_no}
-use borrow.Author.Rules.{rules}
 use Rattle.playout.proofs.playout_channel_refused.Goals as goal
 
 pub returns-then-is_channel : goal.returns-then-is_channel

@@ -3,7 +3,6 @@ use Rattle.plain.specs.Numbers.{is_verb, verb_of}
 use Rattle.plain.specs.Plain.{is_channel}
 use Rattle.lists.proofs.Cases.{fst_true}
 use Rattle.playout.proofs.Channels.{gives_of, answers_well, answers-ill}
-use borrow.Author.Rules.{rules}
 use Rattle.playout.proofs.playout_channel_verb.Goals as goal
 
 pub returns-then-is_channel-is_verb : goal.returns-then-is_channel-is_verb

@@ -1,5 +1,4 @@
 use mathlib.Core.Path.{ap, ◌∙◌}
-use borrow.Author.Rules.{rules}
 use Rattle.departure.specs.Departure.{line_number}
 use Rattle.playout.proofs.playout_departure.Goals as goal
 

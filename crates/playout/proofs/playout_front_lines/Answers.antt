@@ -1,5 +1,4 @@
 use Rattle.playout.proofs.Writings.{puts_yes, puts_no}
-use borrow.Author.Rules.{rules}
 use Rattle.playout.proofs.playout_front_lines.Goals as goal
 
 pub returns-then-is_front-is_event : goal.returns-then-is_front-is_event

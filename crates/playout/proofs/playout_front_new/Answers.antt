@@ -1,7 +1,6 @@
 use mathlib.Core.Path.{ap, ◌∙◌}
 use Rattle.playout.specs.Steps.{made_of}
 use Rattle.playout.proofs.Fronts.{front-made}
-use borrow.Author.Rules.{rules}
 use Rattle.playout.proofs.playout_front_new.Goals as goal
 
 pub returns : goal.returns

@@ -1,7 +1,6 @@
 use mathlib.Core.Path.{sym}
 use Rattle.lists.proofs.Cases.{chosen, other}
 use Rattle.playout.specs.Front.{front_sends}
-use borrow.Author.Rules.{rules}
 use Rattle.playout.proofs.playout_front_sends.Goals as goal
 
 pub returns-then-is_front-is_sent : goal.returns-then-is_front-is_sent

@@ -1,6 +1,5 @@
 use mathlib.Core.Path.{ap, ◌∙◌}
 use Rattle.playout.specs.Writing.{heartbeat_read}
-use borrow.Author.Rules.{rules}
 use Rattle.playout.proofs.playout_heartbeat_read.Goals as goal
 
 pub returns : goal.returns

@@ -1,5 +1,4 @@
 use Rattle.playout.proofs.Writings.{puts_if}
-use borrow.Author.Rules.{rules}
 use Rattle.playout.proofs.playout_heartbeat_write.Goals as goal
 
 pub returns : goal.returns

@@ -1,4 +1,3 @@
-use borrow.Author.Rules.{rules}
 use Rattle.playout.proofs.playout_higher.Goals as goal
 
 pub returns : goal.returns

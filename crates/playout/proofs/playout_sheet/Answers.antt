@@ -1,5 +1,4 @@
 use Rattle.playout.proofs.Writings.{puts}
-use borrow.Author.Rules.{rules}
 use Rattle.playout.proofs.playout_sheet.Goals as goal
 
 pub returns : goal.returns

@@ -1,6 +1,5 @@
 use mathlib.Core.Path.{sym, ◌∙◌}
 use Rattle.playout.proofs.Channels.{adds_well, adds-ill}
-use borrow.Author.Rules.{rules}
 use Rattle.playout.proofs.playout_table_add.Goals as goal
 
 pub returns-then-is_table : goal.returns-then-is_table

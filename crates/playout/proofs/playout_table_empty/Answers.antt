@@ -3,7 +3,6 @@ use Rattle.plain.specs.Plain.{plain_table}
 use Rattle.plain.proofs.Laws.{laws}
 use Rattle.playout.proofs.Staying.{stays_plain}
 use Rattle.playout.proofs.Chains.{plain_calls_settle}
-use borrow.Author.Rules.{rules}
 use Rattle.playout.proofs.playout_table_empty.Goals as goal
 
 pub returns : goal.returns

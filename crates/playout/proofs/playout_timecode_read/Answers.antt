@@ -1,6 +1,5 @@
 use mathlib.Core.Path.{ap, ◌∙◌}
 use Rattle.playout.specs.Writing.{timecode_read}
-use borrow.Author.Rules.{rules}
 use Rattle.playout.proofs.playout_timecode_read.Goals as goal
 
 pub returns : goal.returns

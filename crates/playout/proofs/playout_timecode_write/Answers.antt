@@ -7,7 +7,6 @@ use Rattle.text.proofs.Writing.{refuses-first}
 use Rattle.timecode.specs.Label.{label}
 use Rattle.timecode.specs.Read.{of_timecode, in_day, take_frame}
 use Rattle.playout.proofs.Writings.{puts_if}
-use borrow.Author.Rules.{rules}
 use Rattle.playout.proofs.playout_timecode_write.Goals as goal
 
 pub returns-in-Is : goal.returns-in-Is

@@ -1,6 +1,5 @@
 use mathlib.Core.Path.{sym, ◌∙◌}
 use Rattle.playout.proofs.Fronts.{ticks_well_lem, ticks-ill}
-use borrow.Author.Rules.{rules}
 use Rattle.playout.proofs.timed.Goals as goal
 
 pub returns-then-is_front : goal.returns-then-is_front

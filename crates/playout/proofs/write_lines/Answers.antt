@@ -1,5 +1,4 @@
 use Rattle.playout.proofs.Writings.{puts-said}
-use borrow.Author.Rules.{rules}
 use Rattle.playout.proofs.write_lines.Goals as goal
 
 pub returns : goal.returns

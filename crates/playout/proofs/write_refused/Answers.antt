@@ -1,6 +1,5 @@
 use mathlib.Core.Path.{sym, ◌∙◌}
 use Rattle.playout.proofs.Writings.{puts, puts_yes, puts_no}
-use borrow.Author.Rules.{rules}
 use Rattle.playout.proofs.write_refused.Goals as goal
 
 pub returns-then-is_refusal : goal.returns-then-is_refusal

@@ -1,4 +1,3 @@
-use borrow.Author.Rules.{rules}
 use Rattle.playout.proofs.written_of.Goals as goal
 
 pub returns-in-To : goal.returns-in-To

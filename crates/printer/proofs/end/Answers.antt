@@ -3,7 +3,6 @@ use mathlib.Core.Bool.{not, ◌||◌}
 use mathlib.Core.Path.{refl, sym, ap, ◌∙◌}
 use Rattle.printer.proofs.Leaving.{leaves_none, leaves_as}
 use Rattle.printer.proofs.Making.{goes-stepped, ends-none, ends_so}
-use borrow.Author.Rules.{rules}
 use Rattle.printer.proofs.end.Goals as goal
 
 pub returns-then-last-over : goal.returns-then-last-over

@@ -1,6 +1,5 @@
 use mathlib.Core.List.{[]}
 use Rattle.printer.proofs.Answering.{answered_in}
-use borrow.Author.Rules.{rules}
 use Rattle.printer.proofs.print.Goals as goal
 
 pub returns : goal.returns

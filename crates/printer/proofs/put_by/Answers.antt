@@ -1,6 +1,5 @@
 use mathlib.Core.Path.{sym, ap}
 use Rattle.printer.specs.Steps.{put_by}
-use borrow.Author.Rules.{rules}
 use Rattle.printer.proofs.put_by.Goals as goal
 
 pub returns-in-To : goal.returns-in-To

@@ -1,11 +1,8 @@
 use mathlib.Core.Path.{refl}
 use Prim.Native.Nat.{◌-◌}
 use native.Mathlib.Omega.{arith}
-use lib.ListN.{length}
-use Rattle.feed.specs.Answers.{fed_of}
-use Rattle.printer.proofs.Leaving.{Leaving, leaving_begins, leaving_turn}
-use Rattle.printer.proofs.Running.{Running, Told, to_run, told-begins, run_begins, kept, used-within, place-within, run_turn, run_less, told-turn, run_ends}
-use borrow.Author.Rules.{rules}
+use Rattle.printer.proofs.Leaving.{leaving_begins, leaving_turn}
+use Rattle.printer.proofs.Running.{told-begins, run_begins, kept, used-within, place-within, run_turn, run_less, told-turn, run_ends}
 use Rattle.printer.proofs.run.Goals as goal
 
 pub loop-goes-init : goal.loop-goes-init

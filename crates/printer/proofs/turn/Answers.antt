@@ -7,7 +7,6 @@ use Rattle.printer.proofs.Turning.{none-taken, taken-within}
 use Rattle.printer.proofs.Printing.{line-none}
 use Rattle.printer.proofs.Leaving.{leaves_as, short-same}
 use Rattle.printer.proofs.Making.{goes-stepped, turns-step, turns-end, turns-taken}
-use borrow.Author.Rules.{rules}
 use Rattle.printer.proofs.turn.Goals as goal
 
 pub returns-then-waits : goal.returns-then-waits

@@ -3,7 +3,6 @@ use borrow.Author.Tests.{lt-ltb, le-ltb}
 use Rattle.lists.proofs.Cases.{chosen, other}
 use Rattle.refusal.specs.Answer.{refused}
 use Rattle.roles.specs.Verbs.{of_cell}
-use borrow.Author.Rules.{rules}
 use Rattle.roles.proofs.by_table.Goals as goal
 
 pub returns-then-n-lt12 : goal.returns-then-n-lt12

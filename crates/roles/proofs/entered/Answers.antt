@@ -2,7 +2,6 @@ use mathlib.Core.Path.{ap₂, ◌∙◌}
 use native.Mathlib.Omega.{arith}
 use Rattle.roles.specs.Verbs.{cell}
 use Rattle.roles.proofs.Table.{role-below, verb-below, cell-right, cell-small}
-use borrow.Author.Rules.{rules}
 use Rattle.roles.proofs.entered.Goals as goal
 
 pub overflow_cast-role_number : goal.overflow_cast-role_number

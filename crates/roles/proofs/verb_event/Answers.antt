@@ -1,4 +1,3 @@
-use borrow.Author.Rules.{rules}
 use Rattle.roles.proofs.verb_event.Goals as goal
 
 pub returns-in-Start : goal.returns-in-Start

@@ -2,7 +2,6 @@ use mathlib.Core.Path.{sym}
 use borrow.Author.Tests.{lt-ltb, le-ltb}
 use Rattle.lists.proofs.Cases.{chosen, other}
 use Rattle.server.specs.Server.{one_more}
-use borrow.Author.Rules.{rules}
 use Rattle.server.proofs.one_more.Goals as goal
 
 pub returns-then-n-lt-BEATS : goal.returns-then-n-lt-BEATS

@@ -1,7 +1,6 @@
 use mathlib.Core.Path.{◌≡◌, sym, subst}
 use Prim.Native.Nat.{◌+◌}
 use native.Mathlib.Omega.{arith}
-use borrow.Author.Rules.{rules}
 use Rattle.settling.specs.Demand.{settling_time, SettlesIn}
 use Rattle.settling.proofs.Demand.{settles, links_are_as_cut}
 use Rattle.settling.proofs.Examples.{examples}

@@ -1,6 +1,6 @@
 -- The digits of the tenth are written first, then the last digit after them; the number falls.
-use Rattle.std.proofs.Common.{arith, ◌≡◌, ◌<◌, ◌+◌, ◌/◌, length}
-use Rattle.text.specs.Digits.{last_digit, digits}
+use Rattle.std.proofs.Common.{arith, ◌<◌, length}
+use Rattle.text.specs.Digits.{last_digit}
 use Rattle.text.proofs.Digits.{digits-one, digits_more, length-one, length_more}
 use Rattle.text.proofs.Writing.{writes_one, writes_more, written-end}
 use Rattle.text.proofs.+put_digits.Goals as goal

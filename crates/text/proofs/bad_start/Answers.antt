@@ -1,4 +1,3 @@
-use borrow.Author.Rules.{rules}
 use Rattle.text.proofs.Reading.{start-empty, start-one, start-more}
 use Rattle.text.proofs.bad_start.Goals as goal
 

@@ -1,7 +1,4 @@
-use Prim.Native.Nat.{◌-◌}
 use native.Mathlib.Omega.{arith}
-use mathlib.Core.Logic.{⊎_elim}
-use lib.ListN.{length}
 use Rattle.lists.proofs.CountLoop as count-loop
 use Rattle.text.proofs.field_count.Goals as goal
 use Rattle.text.proofs.field_count.Goals.{then-s-i-eq9, else-s-i-eq9}

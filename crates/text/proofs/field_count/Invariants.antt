@@ -1,7 +1,5 @@
 -- The loop's invariant: n fields begin before i.
 use Prim.Native.Nat.{◌-◌}
-use native.Mathlib.Omega.{arith}
-use mathlib.Core.Logic.{⊎_elim}
 use lib.ListN.{length}
 use Rattle.lists.proofs.CountLoop as count-loop
 use Rattle.text.proofs.field_count.Given as goal

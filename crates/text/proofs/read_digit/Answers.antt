@@ -1,5 +1,4 @@
 use native.Mathlib.Omega.{arith}
-use borrow.Author.Rules.{rules}
 use Rattle.text.proofs.Reading.{digit_low, digit-high, digit_large, digit-is}
 use Rattle.text.proofs.read_digit.Goals as goal
 

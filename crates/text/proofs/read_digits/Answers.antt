@@ -1,8 +1,5 @@
-use Prim.Native.Nat.{◌-◌}
 use mathlib.Core.Path.{sym, ap, ◌∙◌}
 use native.Mathlib.Omega.{arith}
-use borrow.Author.Rules.{rules}
-use lib.ListN.{length}
 use Rattle.text.specs.Number.{of_number}
 use Rattle.text.proofs.Reading as reading
 use Rattle.text.proofs.read_digits.Goals as goal

@@ -1,5 +1,4 @@
 use mathlib.Core.Path.{sym, ap, ◌∙◌}
-use borrow.Author.Rules.{rules}
 use Rattle.text.specs.Number.{of_number}
 use Rattle.text.proofs.Reading.{number-bad, number_read, number-refused}
 use Rattle.text.proofs.read_number.Goals as goal

@@ -1,7 +1,5 @@
-use Prim.Native.Nat.{◌-◌}
 use native.Mathlib.Omega.{arith}
 use mathlib.Core.Path.{sym}
-use lib.ListN.{length}
 use Rattle.lists.proofs.SameLoop as same-loop
 use Rattle.text.proofs.same.Goals as goal
 

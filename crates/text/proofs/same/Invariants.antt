@@ -1,7 +1,5 @@
 -- The loop's invariant: the two are equal before i.
 use Prim.Native.Nat.{◌-◌}
-use native.Mathlib.Omega.{arith}
-use mathlib.Core.Path.{sym}
 use lib.ListN.{length}
 use Rattle.lists.proofs.SameLoop as same-loop
 use Rattle.text.proofs.same.Given as goal

@@ -1,5 +1,4 @@
 use mathlib.Core.Path.{sym, ◌∙◌}
-use borrow.Author.Rules.{rules}
 use borrow.Author.Tests.{leb-true, leb-false}
 use Rattle.text.proofs.Writing.{writes_short}
 use Rattle.text.proofs.write_bytes.Goals as goal

@@ -1,4 +1,3 @@
-use borrow.Author.Rules.{rules}
 use native.Mathlib.Omega.{arith}
 use Rattle.timecode.specs.Read.{frame_of}
 use Rattle.timecode.proofs.frame_of.Goals as goal

@@ -1,4 +1,3 @@
-use borrow.Author.Rules.{rules}
 use borrow.Author.Tests.{eq-eqb, ne_eqb}
 use Rattle.timecode.specs.Read.{is_label}
 use Rattle.timecode.proofs.is_label.Goals as goal

@@ -4,7 +4,6 @@ use Rattle.places.specs.Words.{servers_of}
 use Rattle.places.proofs.Canonical.{keeps-all, becomes-keeps}
 use Rattle.frame.specs.Answers.{state_of}
 use Rattle.verbs.proofs.Acting.{not-refused, acted}
-use borrow.Author.Rules.{rules}
 use Rattle.verbs.proofs.act.Goals as goal
 
 pub put-requires : goal.put-requires

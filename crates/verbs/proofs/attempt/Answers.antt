@@ -1,7 +1,6 @@
 use mathlib.Core.Path.{refl, ap, ◌∙◌}
 use Rattle.roles.specs.Words.{said}
 use Rattle.verbs.proofs.Acting.{cut_does, mend_does, others_do}
-use borrow.Author.Rules.{rules}
 use Rattle.verbs.proofs.attempt.Goals as goal
 
 pub returns-in-Cut : goal.returns-in-Cut

@@ -1,5 +1,4 @@
 use Rattle.verbs.proofs.Acting.{verb_decided, does_as, tells_as}
-use borrow.Author.Rules.{rules}
 use Rattle.verbs.proofs.decide.Goals as goal
 
 pub returns : goal.returns

@@ -1,6 +1,5 @@
 use mathlib.Core.Path.{sym, ◌∙◌}
 use Rattle.lists.proofs.Cases.{chosen, other}
-use borrow.Author.Rules.{rules}
 use Rattle.verbs.proofs.judge.Goals as goal
 
 pub returns-then-names_nobody : goal.returns-then-names_nobody

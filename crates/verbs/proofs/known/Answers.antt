@@ -4,7 +4,6 @@ use lib.Dec.{ltb}
 use Rattle.lists.proofs.Cases.{chosen, other}
 use Rattle.group.specs.Table.{most}
 use Rattle.verbs.proofs.Acting.{and_rest}
-use borrow.Author.Rules.{rules}
 use Rattle.verbs.proofs.known.Goals as goal
 
 pub returns-then-paired : goal.returns-then-paired

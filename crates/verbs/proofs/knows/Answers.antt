@@ -2,7 +2,6 @@ use mathlib.Core.Path.{◌∙◌}
 use Rattle.places.specs.Words.{servers_of}
 use Rattle.frame.specs.Answers.{state_of}
 use Rattle.verbs.proofs.Acting.{known_by}
-use borrow.Author.Rules.{rules}
 use Rattle.verbs.proofs.knows.Goals as goal
 
 pub returns : goal.returns

@@ -1,6 +1,5 @@
 use mathlib.Core.Path.{◌∙◌}
 use Rattle.verbs.proofs.Acting.{known_by}
-use borrow.Author.Rules.{rules}
 use Rattle.verbs.proofs.knows_in.Goals as goal
 
 pub returns : goal.returns

@@ -2,7 +2,6 @@ use mathlib.Core.Path.{ap}
 use mathlib.Core.Bool.{Bool, ◌&&◌, ◌||◌}
 use lib.Dec.{eqb}
 use Rattle.group.specs.Verbs.{names_nobody}
-use borrow.Author.Rules.{rules}
 use Rattle.verbs.proofs.names_nobody.Goals as goal
 
 pub returns : goal.returns

@@ -1,6 +1,5 @@
 use mathlib.Core.Path.{refl}
 use Rattle.verbs.proofs.Acting.{told-short, told-all}
-use borrow.Author.Rules.{rules}
 use Rattle.verbs.proofs.say.Goals as goal
 
 pub returns-then-written-room : goal.returns-then-written-room

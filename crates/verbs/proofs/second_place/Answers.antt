@@ -1,6 +1,5 @@
 use mathlib.Core.Path.{sym, ◌∙◌}
 use Rattle.lists.proofs.Cases.{chosen, other}
-use borrow.Author.Rules.{rules}
 use Rattle.verbs.proofs.second_place.Goals as goal
 
 pub returns-then-paired : goal.returns-then-paired

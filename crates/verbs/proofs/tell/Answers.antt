@@ -2,7 +2,6 @@ use mathlib.Core.Path.{ap, ◌∙◌}
 use Rattle.refusal.specs.Answer.{of_verdict}
 use Rattle.group.proofs.Answering.{gives-refused}
 use Rattle.verbs.proofs.Acting.{told}
-use borrow.Author.Rules.{rules}
 use Rattle.verbs.proofs.tell.Goals as goal
 
 pub returns-in-Accepted : goal.returns-in-Accepted

@@ -7,7 +7,6 @@ use Rattle.lists.proofs.Cases.{chosen, other}
 use Rattle.group.specs.Advance.{step_outcome}
 use Rattle.channel.specs.Answers.{state}
 use Rattle.channel.proofs.Answering.{answers-refused, answers_as}
-use borrow.Author.Rules.{rules}
 use Rattle.channel.proofs.Channel.advance.Goals as goal
 
 pub returns-then-self : goal.returns-then-self

@@ -4,7 +4,6 @@ use borrow.Author.Tests.{lt-ltb, le-ltb}
 use Rattle.lists.proofs.Cases.{chosen, other}
 use Rattle.group.specs.Advance.{time_refusal, time_outcome}
 use Rattle.channel.proofs.Answering.{answers-refused, answers_as}
-use borrow.Author.Rules.{rules}
 use Rattle.channel.proofs.Channel.advance_to.Goals as goal
 
 pub returns-then-time-ge-DAY : goal.returns-then-time-ge-DAY

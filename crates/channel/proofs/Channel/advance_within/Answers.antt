@@ -3,7 +3,6 @@ use borrow.Author.Tests.{lt-ltb, le-ltb}
 use Rattle.lists.proofs.Cases.{chosen, other}
 use Rattle.group.specs.Advance.{time_refusal}
 use Rattle.channel.proofs.Answering.{stays-refused, within-goes}
-use borrow.Author.Rules.{rules}
 use Rattle.channel.proofs.Channel.advance_within.Goals as goal
 
 pub returns-then-time-ge-DAY : goal.returns-then-time-ge-DAY

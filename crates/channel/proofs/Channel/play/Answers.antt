@@ -1,6 +1,5 @@
 use native.Mathlib.Omega.{arith}
 use Rattle.channel.proofs.Answering.{answers, plays-of, next-short, next-played}
-use borrow.Author.Rules.{rules}
 use Rattle.channel.proofs.Channel.play.Goals as goal
 
 pub returns-then-fared : goal.returns-then-fared

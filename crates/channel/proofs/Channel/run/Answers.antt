@@ -1,7 +1,6 @@
 use Rattle.group.specs.declared.State.{State}
 use Rattle.group.specs.Advance.{time_goes}
 use Rattle.channel.proofs.Answering.{answers, gives_of, gives-kept}
-use borrow.Author.Rules.{rules}
 use Rattle.channel.proofs.Channel.run.Goals as goal
 
 pub returns-in-Accepted : goal.returns-in-Accepted

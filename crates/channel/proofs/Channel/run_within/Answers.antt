@@ -3,7 +3,6 @@ use lib.ListN.{length}
 use Rattle.group.specs.declared.State.{State}
 use Rattle.group.specs.Advance.{within_goes}
 use Rattle.channel.proofs.Answering.{answers-within, gives_of, gives_nothing, within-later, stays}
-use borrow.Author.Rules.{rules}
 use Rattle.channel.proofs.Channel.run_within.Goals as goal
 
 pub overflow_sub-result : goal.overflow_sub-result

@@ -1,6 +1,5 @@
 use native.Mathlib.Omega.{arith}
 use Rattle.channel.proofs.Answering.{next-quiet}
-use borrow.Author.Rules.{rules}
 use Rattle.channel.proofs.Channel.step.Goals as goal
 
 pub overflow_add-state : goal.overflow_add-state

@@ -1,5 +1,4 @@
 use Rattle.channel.proofs.Answering.{answers}
-use borrow.Author.Rules.{rules}
 use Rattle.channel.proofs.Channel.verb.Goals as goal
 
 pub returns : goal.returns

@@ -3,7 +3,6 @@ use Rattle.group.specs.declared.Table.{Table}
 use Rattle.feed.specs.Answers.{channel_of, fed_of}
 use Rattle.feed.proofs.Making.{does_as}
 use Rattle.feed.proofs.Staging.{is-taken, add_to_none}
-use borrow.Author.Rules.{rules}
 use Rattle.feed.proofs.Feed.add.Goals as goal
 
 pub add_to-requires : goal.add_to-requires

@@ -2,7 +2,6 @@ use Rattle.day.specs.Day.{Day, server_effect}
 use Rattle.feeding.specs.Moves.{effect_move}
 use Rattle.feed.specs.Answers.{fed_of}
 use Rattle.feed.proofs.Staging.{does_at}
-use borrow.Author.Rules.{rules}
 use Rattle.feed.proofs.Feed.add_server.Goals as goal
 
 pub returns-in-AtPeriod : goal.returns-in-AtPeriod

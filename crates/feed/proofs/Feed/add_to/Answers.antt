@@ -1,7 +1,6 @@
 use Rattle.feed.specs.Answers.{channel_of, fed_of}
 use Rattle.feed.proofs.Making.{does_as}
 use Rattle.feed.proofs.Staging.{add_so, add_not, added-table}
-use borrow.Author.Rules.{rules}
 use Rattle.feed.proofs.Feed.add_to.Goals as goal
 
 pub listed-requires : goal.listed-requires

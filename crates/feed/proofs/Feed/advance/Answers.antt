@@ -7,7 +7,6 @@ use Rattle.feeding.proofs.Calling.{within-done, within-not}
 use Rattle.feed.specs.Answers.{channel_of, fed_of}
 use Rattle.feed.proofs.Leaving.{not-refused, made-entries, passes_same, passes_on}
 use Rattle.feed.proofs.Making.{makes-written, makes-refused}
-use borrow.Author.Rules.{rules}
 use Rattle.feed.proofs.Feed.advance.Goals as goal
 
 pub returns-in-Accepted : goal.returns-in-Accepted

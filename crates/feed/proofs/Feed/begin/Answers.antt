@@ -3,7 +3,6 @@ use mathlib.Core.Path.{refl, ap}
 use Rattle.periods.specs.declared.Period.{Period}
 use Rattle.feed.specs.declared.Stage.TheVariants.{AtPeriod}
 use Rattle.feeding.proofs.Laws.{laws}
-use borrow.Author.Rules.{rules}
 use Rattle.feed.proofs.Feed.begin.Goals as goal
 
 pub returns : goal.returns

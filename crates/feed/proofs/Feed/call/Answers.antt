@@ -1,6 +1,5 @@
 use Rattle.places.proofs.Canonical.{becomes-keeps}
 use Rattle.feed.proofs.Staging.{call-so, call-not}
-use borrow.Author.Rules.{rules}
 use Rattle.feed.proofs.Feed.call.Goals as goal
 
 pub returns-in-Accepted : goal.returns-in-Accepted

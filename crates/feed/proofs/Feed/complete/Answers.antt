@@ -5,9 +5,7 @@ use Rattle.periods.specs.Period.{beat_limit}
 use Rattle.group.specs.declared.Table.{Table}
 use Rattle.group.specs.Table.{is_table, fresh_refusal}
 use Rattle.group.proofs.Opening.{no_table}
-use Rattle.refusal.specs.Answer.{of_verdict}
 use Rattle.feed.proofs.Staging.{is-taken, not_taken}
-use borrow.Author.Rules.{rules}
 use Rattle.feed.proofs.Feed.complete.Goals as goal
 
 pub returns-in-Accepted : goal.returns-in-Accepted

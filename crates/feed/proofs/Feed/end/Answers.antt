@@ -6,7 +6,6 @@ use Rattle.feed.specs.declared.Feed.{Feed}
 use Rattle.feed.specs.Answers.{channel_of, fed_of}
 use Rattle.feed.proofs.Leaving.{made_close, passes-turned}
 use Rattle.feed.proofs.Making.{does_as, does-none}
-use borrow.Author.Rules.{rules}
 use Rattle.feed.proofs.Feed.end.Goals as goal
 
 pub returns-then-time-frame : goal.returns-then-time-frame

@@ -1,11 +1,9 @@
 use mathlib.Core.Path.{sym, ◌∙◌}
 use native.Mathlib.Omega.{arith}
-use borrow.Author.Tests.{not-true, not-false}
 use lib.ListN.{length}
 use Rattle.feeding.proofs.Placing.{entry-unknown, entry_past, entry-later, entry-now}
 use Rattle.feed.specs.Answers.{channel_of, fed_of}
 use Rattle.feed.proofs.Making.{does_as}
-use borrow.Author.Rules.{rules}
 use Rattle.feed.proofs.Feed.enter.Goals as goal
 
 pub returns-then-not-knows : goal.returns-then-not-knows

@@ -11,7 +11,6 @@ use Rattle.feeding.proofs.Placing.{placed_on, placed_not}
 use Rattle.feed.specs.Answers.{channel_of, fed_of}
 use Rattle.feed.proofs.Making.{does_as}
 use Rattle.feed.proofs.Staging.{open_made, open_channel}
-use borrow.Author.Rules.{rules}
 use Rattle.feed.proofs.Feed.enter_open.Goals as goal
 
 pub enter-requires : goal.enter-requires

@@ -1,12 +1,11 @@
 use mathlib.Core.Path.{refl, ap}
 use mathlib.Core.Bool.{Bool, ◌||◌}
-use mathlib.Core.List.{List, []}
-use Prim.Native.Nat.{ℕ, ◌-◌}
+use mathlib.Core.List.{[]}
+use Prim.Native.Nat.{◌-◌}
 use native.Mathlib.Omega.{arith}
-use lib.ListN.{length as count}
-use Rattle.feeding.proofs.Taking.{Taking, begins, within, room, turn, ends}
+use Rattle.feeding.proofs.Taking.{begins, within, room, turn, ends}
 use Rattle.feed.specs.Answers.{fed_of}
-use Rattle.feed.proofs.Filling.{Filling, fill_begins, fill_turn, fill_ends}
+use Rattle.feed.proofs.Filling.{fill_begins, fill_turn, fill_ends}
 use borrow.Author.Rules.{rules}
 use Rattle.feed.proofs.Feed.fill.Goals as goal
 

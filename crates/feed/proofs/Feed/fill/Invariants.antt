@@ -1,13 +1,10 @@
-use mathlib.Core.Path.{refl, ap}
-use mathlib.Core.Bool.{Bool, ◌||◌}
-use mathlib.Core.List.{List, []}
+use mathlib.Core.Bool.{Bool}
+use mathlib.Core.List.{List}
 use Prim.Native.Nat.{ℕ, ◌-◌}
-use native.Mathlib.Omega.{arith}
 use lib.ListN.{length as count}
-use Rattle.feeding.proofs.Taking.{Taking, begins, within, room, turn, ends}
+use Rattle.feeding.proofs.Taking.{Taking}
 use Rattle.feed.specs.Answers.{fed_of}
-use Rattle.feed.proofs.Filling.{Filling, fill_begins, fill_turn, fill_ends}
-use borrow.Author.Rules.{rules}
+use Rattle.feed.proofs.Filling.{Filling}
 use Rattle.feed.proofs.Feed.fill.Given as goal
 
 abbrev pub invariant-loop-i : goal.invariant-loop-i

@@ -7,7 +7,6 @@ use Rattle.feed.specs.Answers.{fed_of}
 use Rattle.feed.proofs.Leaving.{passes_same}
 use Rattle.feed.proofs.Making.{does_as, does-none}
 use Rattle.feed.proofs.Pairing.{makes_in}
-use borrow.Author.Rules.{rules}
 use Rattle.feed.proofs.Feed.finish.Goals as goal
 
 pub returns-then-self-is_whole : goal.returns-then-self-is_whole

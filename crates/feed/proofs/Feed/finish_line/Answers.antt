@@ -6,7 +6,6 @@ use Rattle.feed.specs.Answers.{fed_of}
 use Rattle.feed.proofs.Leaving.{passes_kept}
 use Rattle.feed.proofs.Making.{does-none}
 use Rattle.feed.proofs.Staging.{does_at}
-use borrow.Author.Rules.{rules}
 use Rattle.feed.proofs.Feed.finish_line.Goals as goal
 
 pub returns-in-AtPeriod : goal.returns-in-AtPeriod

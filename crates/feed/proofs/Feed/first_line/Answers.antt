@@ -9,7 +9,6 @@ use Rattle.feeding.specs.Moves.{going}
 use Rattle.feed.specs.Answers.{fed_of}
 use Rattle.feed.proofs.Making.{does_as}
 use Rattle.feed.proofs.Staging.{period-is, period-taken}
-use borrow.Author.Rules.{rules}
 use Rattle.feed.proofs.Feed.first_line.Goals as goal
 
 pub listed-requires : goal.listed-requires

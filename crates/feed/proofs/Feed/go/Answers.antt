@@ -3,7 +3,6 @@ use Rattle.dayline.specs.DayLine.{of_day_line}
 use Rattle.feeding.proofs.Placing.{placed_line, beyond-line}
 use Rattle.feed.specs.Answers.{fed_of}
 use Rattle.feed.proofs.Making.{does_as}
-use borrow.Author.Rules.{rules}
 use Rattle.feed.proofs.Feed.go.Goals as goal
 
 pub returns-then-self-gt-LINES : goal.returns-then-self-gt-LINES

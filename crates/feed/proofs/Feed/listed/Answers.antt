@@ -11,7 +11,6 @@ use Rattle.feed.specs.declared.Feed.{Feed}
 use Rattle.feed.specs.Answers.{day_of}
 use Rattle.feed.proofs.Leaving.{made-servers, passes-next}
 use Rattle.feed.proofs.Making.{does-none}
-use borrow.Author.Rules.{rules}
 use Rattle.feed.proofs.Feed.listed.Goals as goal
 
 pub returns : goal.returns

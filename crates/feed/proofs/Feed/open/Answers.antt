@@ -2,7 +2,6 @@ use mathlib.Core.Path.{refl}
 use Rattle.feeding.specs.Moves.{place_refusal}
 use Rattle.feed.specs.Answers.{channel_of}
 use Rattle.feed.proofs.Staging.{place_at}
-use borrow.Author.Rules.{rules}
 use Rattle.feed.proofs.Feed.open.Goals as goal
 
 pub returns-in-AtPeriod : goal.returns-in-AtPeriod

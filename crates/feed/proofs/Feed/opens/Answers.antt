@@ -1,7 +1,6 @@
 use mathlib.Core.Path.{ap, ◌∙◌}
 use Prim.Native.Nat.{ℕ}
 use Rattle.group.specs.Table.{fresh_refusal}
-use borrow.Author.Rules.{rules}
 use Rattle.feed.proofs.Feed.opens.Goals as goal
 
 pub returns : goal.returns

@@ -7,7 +7,6 @@ use Rattle.feeding.specs.Steps.{Sized}
 use Rattle.feeding.proofs.Placing.{placed_now}
 use Rattle.feed.specs.Answers.{fed_of}
 use Rattle.feed.proofs.Making.{does_as}
-use borrow.Author.Rules.{rules}
 use Rattle.feed.proofs.Feed.perform.Goals as goal
 
 pub set_period-requires : goal.set_period-requires

@@ -1,7 +1,6 @@
 use mathlib.Core.Path.{sym, ap}
 use Rattle.text.specs.declared.Written.{Written}
 use Rattle.feed.specs.Steps.{if_written}
-use borrow.Author.Rules.{rules}
 use Rattle.feed.proofs.Feed.put.Goals as goal
 
 pub returns-in-To : goal.returns-in-To

@@ -5,7 +5,6 @@ use Rattle.feed.specs.declared.Feed.{Feed}
 use Rattle.feed.specs.Answers.{channel_of, fed_of}
 use Rattle.feed.proofs.Leaving.{made-entries, passes-turned}
 use Rattle.feed.proofs.Making.{does_as, does-put}
-use borrow.Author.Rules.{rules}
 use Rattle.feed.proofs.Feed.refuse.Goals as goal
 
 pub returns : goal.returns

@@ -1,5 +1,4 @@
 use mathlib.Core.Path.{refl, sym, ◌∙◌}
-use borrow.Author.Rules.{rules}
 use Rattle.feed.proofs.Feed.refuse_call.Goals as goal
 
 pub returns-then-number-eq9 : goal.returns-then-number-eq9

@@ -1,10 +1,8 @@
 use mathlib.Core.Path.{refl, sym, ◌∙◌}
 use native.Mathlib.Omega.{arith}
-use borrow.Author.Tests.{not-true, not-false}
 use Rattle.feed.specs.Answers.{fed_of}
 use Rattle.feed.proofs.Leaving.{not-refused, passes_same}
 use Rattle.feed.proofs.Pairing.{follows-none, within, follows-made, follows-not}
-use borrow.Author.Rules.{rules}
 use Rattle.feed.proofs.Feed.second.Goals as goal
 
 pub returns-then-not-waits : goal.returns-then-not-waits

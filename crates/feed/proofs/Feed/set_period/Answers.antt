@@ -2,7 +2,6 @@ use Rattle.day.specs.Day.{Day, period_effect}
 use Rattle.feeding.specs.Moves.{effect_move}
 use Rattle.feed.specs.Answers.{fed_of}
 use Rattle.feed.proofs.Staging.{does_at}
-use borrow.Author.Rules.{rules}
 use Rattle.feed.proofs.Feed.set_period.Goals as goal
 
 pub returns-in-AtPeriod : goal.returns-in-AtPeriod

@@ -1,5 +1,4 @@
 use mathlib.Core.Path.{refl, sym, subst, ◌∙◌}
-use borrow.Author.Tests.{not-true, not-false}
 use lib.ListN.{length}
 use Rattle.feeding.specs.Steps.{Sized}
 use Rattle.feeding.proofs.Sizing.{read_sized}
@@ -8,7 +7,6 @@ use Rattle.feed.specs.Answers.{fed_of}
 use Rattle.feed.proofs.Leaving.{passes_same}
 use Rattle.feed.proofs.Making.{does_as, does-none}
 use Rattle.feed.proofs.Pairing.{makes_in}
-use borrow.Author.Rules.{rules}
 use Rattle.feed.proofs.Feed.step.Goals as goal
 
 pub returns-then-not-waits : goal.returns-then-not-waits

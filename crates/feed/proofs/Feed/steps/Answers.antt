@@ -1,6 +1,5 @@
 use mathlib.Core.Path.{refl, sym, subst, ◌∙◌}
 use native.Mathlib.Omega.{arith}
-use borrow.Author.Tests.{not-true, not-false}
 use lib.ListN.{length}
 use Rattle.feeding.specs.Steps.{Sized}
 use Rattle.feeding.proofs.Sizing.{read_sized}
@@ -9,7 +8,6 @@ use Rattle.feed.specs.Answers.{fed_of}
 use Rattle.feed.proofs.Leaving.{passes_same, passes_then}
 use Rattle.feed.proofs.Making.{makes_as, does_as, does-none}
 use Rattle.feed.proofs.Pairing.{makes_in, made, still, pairs_made, pairs-refused}
-use borrow.Author.Rules.{rules}
 use Rattle.feed.proofs.Feed.steps.Goals as goal
 
 pub returns-then-not-waits : goal.returns-then-not-waits

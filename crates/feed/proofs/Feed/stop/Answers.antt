@@ -1,7 +1,6 @@
 use mathlib.Core.Path.{refl}
 use Rattle.feed.proofs.Leaving.{passes_kept}
 use Rattle.feed.proofs.Making.{does-put}
-use borrow.Author.Rules.{rules}
 use Rattle.feed.proofs.Feed.stop.Goals as goal
 
 pub returns : goal.returns

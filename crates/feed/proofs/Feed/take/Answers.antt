@@ -1,4 +1,3 @@
-use borrow.Author.Rules.{rules}
 use Rattle.feed.proofs.Feed.take.Goals as goal
 
 pub returns : goal.returns

@@ -1,4 +1,3 @@
-use borrow.Author.Rules.{rules}
 use Rattle.front.proofs.Front.acted.Goals as goal
 
 pub returns : goal.returns

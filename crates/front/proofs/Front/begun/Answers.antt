@@ -9,7 +9,6 @@ use Rattle.server.specs.declared.Server.{Server}
 use Rattle.server.specs.Server.{cleared}
 use Rattle.front.specs.declared.Front.{Front}
 use Rattle.front.specs.Front.{with_server, goes_on}
-use borrow.Author.Rules.{rules}
 use Rattle.front.proofs.Front.begun.Goals as goal
 
 pub returns-then-self : goal.returns-then-self

@@ -2,7 +2,6 @@ use mathlib.Core.Path.{sym, ap, ◌∙◌}
 use Rattle.periods.specs.Period.{of_period}
 use Rattle.front.proofs.Making.{no_server_lem, no_period, made}
 use Rattle.front.proofs.Laws.{laws}
-use borrow.Author.Rules.{rules}
 use Rattle.front.proofs.Front.new.Goals as goal
 
 pub returns-in-Refused : goal.returns-in-Refused

@@ -1,4 +1,3 @@
-use borrow.Author.Rules.{rules}
 use Rattle.front.proofs.Front.timed.Goals as goal
 
 pub returns : goal.returns

@@ -1,5 +1,4 @@
 use mathlib.Core.Path.{◌∙◌, sym, ap}
-use borrow.Author.Rules.{rules}
 use Rattle.periods.specs.Period.{of_period}
 use Rattle.group.proofs.Opening.{period-is, badly, opens_not}
 use Rattle.group.proofs.State.fresh.Goals as goal

@@ -2,10 +2,8 @@ use mathlib.Core.Bool.{Bool, not, ◌&&◌}
 use mathlib.Core.Path.{sym, ap, ◌∙◌}
 use Prim.Native.Nat.{◌<◌, ◌≤◌}
 use native.Mathlib.Omega.{arith}
-use borrow.Author.Rules.{rules}
-use borrow.Author.Tests.{ne_eqb}
 use lib.Dec.{eqb}
-use Rattle.lists.proofs.Cases.{other, not_so, not_some}
+use Rattle.lists.proofs.Cases.{other}
 use Rattle.refusal.specs.declared.Refusal.TheVariants.{Number, Taken, Servers}
 use Rattle.group.specs.Table.{most, counted, place_in}
 use Rattle.group.proofs.Opening.{adds-not, adds, not_to_add, has-identity, is-taken, is-full, is-new}

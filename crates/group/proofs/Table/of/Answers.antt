@@ -1,5 +1,4 @@
-use mathlib.Core.Path.{sym, ap, ◌∙◌}
-use borrow.Author.Rules.{rules}
+use mathlib.Core.Path.{sym, ◌∙◌}
 use Rattle.group.proofs.Opening.{takes, takes-not}
 use Rattle.group.proofs.Table.of.Goals as goal
 

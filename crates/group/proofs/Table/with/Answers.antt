@@ -1,6 +1,5 @@
 use mathlib.Core.Path.{ap}
 use mathlib.Core.List.{List}
-use borrow.Author.Rules.{rules}
 use Rattle.refusal.specs.declared.Verdict.TheVariants.{Accepted}
 use Rattle.server.specs.declared.Server.{Server}
 use Rattle.group.specs.declared.Added.{Added}

@@ -1,5 +1,4 @@
 use native.Mathlib.Omega.{arith}
-use borrow.Author.Rules.{rules}
 use Rattle.text.proofs.Digits.{width_few}
 use Rattle.heartbeat.proofs.Line.{line-long}
 use Rattle.heartbeat.proofs.Heartbeat.line_length.Goals as goal

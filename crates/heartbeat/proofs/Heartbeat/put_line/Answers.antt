@@ -1,4 +1,3 @@
-use borrow.Author.Rules.{rules}
 use Rattle.text.proofs.Writing.{first_piece, chain}
 use Rattle.heartbeat.specs.Heartbeat.{heartbeat_line}
 use Rattle.heartbeat.proofs.Heartbeat.put_line.Goals as goal

@@ -1,4 +1,3 @@
-use borrow.Author.Rules.{rules}
 use mathlib.Core.Path.{refl}
 use Rattle.judge.proofs.Holding.{asks-by}
 use Rattle.judge.proofs.Judge.asks.Goals as goal

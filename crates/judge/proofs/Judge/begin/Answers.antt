@@ -1,5 +1,4 @@
 use native.Mathlib.Omega.{arith}
-use borrow.Author.Rules.{rules}
 use Rattle.judge.proofs.Giving.{begun-by}
 use Rattle.judge.proofs.Judge.begin.Goals as goal
 

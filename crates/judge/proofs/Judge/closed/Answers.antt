@@ -1,4 +1,3 @@
-use borrow.Author.Rules.{rules}
 use Rattle.judge.proofs.Holding.{closed-by}
 use Rattle.judge.proofs.Judge.closed.Goals as goal
 

@@ -1,5 +1,4 @@
 use native.Mathlib.Omega.{arith}
-use borrow.Author.Rules.{rules}
 use Rattle.judge.proofs.Holding.{in_order}
 use Rattle.judge.proofs.Judge.held.Goals as goal
 

@@ -1,5 +1,4 @@
 use mathlib.Core.Path.{ap, ◌∙◌}
-use borrow.Author.Rules.{rules}
 use Rattle.judge.specs.Answers.{least}
 use Rattle.judge.proofs.Judge.start.Goals as goal
 

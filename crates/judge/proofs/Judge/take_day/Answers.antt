@@ -1,5 +1,4 @@
 use mathlib.Core.Path.{refl, sym, ◌∙◌}
-use borrow.Author.Rules.{rules}
 use Rattle.judge.proofs.Holding.{sated-by}
 use Rattle.judge.proofs.Giving.{day-waits, day-goes}
 use Rattle.judge.proofs.Judge.take_day.Goals as goal

@@ -1,6 +1,5 @@
 use mathlib.Core.Path.{sym, ◌∙◌}
 use native.Mathlib.Omega.{arith}
-use borrow.Author.Rules.{rules}
 use lib.ListN.{length}
 use Rattle.judge.proofs.Holding.{in_order}
 use Rattle.judge.proofs.Giving.{sheet-waits, sheet-goes, found-asks}

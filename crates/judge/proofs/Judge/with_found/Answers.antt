@@ -1,6 +1,5 @@
 use mathlib.Core.List.{[]}
 use native.Mathlib.Omega.{arith}
-use borrow.Author.Rules.{rules}
 use Rattle.judge.proofs.Holding.{found-by}
 use Rattle.judge.proofs.Judge.with_found.Goals as goal
 

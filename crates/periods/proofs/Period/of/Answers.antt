@@ -3,7 +3,6 @@ use borrow.Author.Tests.{lt-leb, le-leb}
 use lib.Dec.{leb}
 use Rattle.lists.proofs.Cases.{chosen, other, and_true, and_left, and_right}
 use Rattle.periods.specs.Period.{take_period}
-use borrow.Author.Rules.{rules}
 use Rattle.periods.proofs.Period.of.Goals as goal
 
 pub returns-then-frames-lt-MIN : goal.returns-then-frames-lt-MIN

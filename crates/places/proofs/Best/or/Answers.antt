@@ -1,6 +1,4 @@
-use Prim.Native.Nat.{◌<◌}
 use native.Mathlib.Omega.{arith}
-use borrow.Author.Rules.{rules}
 use Rattle.places.proofs.Order.{better_is, better_not}
 use Rattle.places.proofs.Best.or.Goals as goal
 

@@ -1,4 +1,3 @@
-use borrow.Author.Rules.{rules}
 use Rattle.roles.proofs.Event.said.Goals as goal
 
 pub returns-in-ToBackup : goal.returns-in-ToBackup

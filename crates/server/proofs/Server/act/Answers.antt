@@ -1,6 +1,5 @@
 use Rattle.refusal.specs.declared.Refusal.TheVariants.{Number, Identity}
 use Rattle.server.proofs.Acting.{refused_with, to-nobody, to-itself, to_another}
-use borrow.Author.Rules.{rules}
 use Rattle.server.proofs.Server.act.Goals as goal
 
 pub returns-then-self-pair : goal.returns-then-self-pair

@@ -1,5 +1,4 @@
 use Rattle.server.specs.Server.{after}
-use borrow.Author.Rules.{rules}
 use Rattle.server.proofs.Server.after.Goals as goal
 
 pub returns-in-Nothing : goal.returns-in-Nothing

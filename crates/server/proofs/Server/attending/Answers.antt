@@ -1,4 +1,3 @@
-use borrow.Author.Rules.{rules}
 use Rattle.server.proofs.Server.attending.Goals as goal
 
 pub returns-in-Backup : goal.returns-in-Backup

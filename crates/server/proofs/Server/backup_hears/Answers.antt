@@ -1,7 +1,6 @@
 use mathlib.Core.Path.{sym, ◌∙◌}
 use Rattle.lists.proofs.Cases.{chosen, other}
 use Rattle.server.specs.Hearing.{backup_hears}
-use borrow.Author.Rules.{rules}
 use Rattle.server.proofs.Server.backup_hears.Goals as goal
 
 pub returns-then-for_this : goal.returns-then-for_this

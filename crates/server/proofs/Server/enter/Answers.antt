@@ -1,7 +1,6 @@
 use mathlib.Core.Path.{sym, ap, ◌∙◌}
 use Rattle.roles.specs.Verbs.{of_allowed}
 use Rattle.server.proofs.Acting.{refused_with, allowed}
-use borrow.Author.Rules.{rules}
 use Rattle.server.proofs.Server.enter.Goals as goal
 
 pub returns-in-To : goal.returns-in-To

@@ -1,6 +1,5 @@
 use mathlib.Core.Path.{ap₂, ◌∙◌}
 use Rattle.heartbeat.specs.Rank.{higher}
-use borrow.Author.Rules.{rules}
 use Rattle.server.proofs.Server.from_lower.Goals as goal
 
 pub returns : goal.returns

@@ -3,7 +3,6 @@ use Rattle.heartbeat.specs.declared.Heartbeat.{Heartbeat}
 use Rattle.roles.specs.declared.Role.{Role}
 use Rattle.server.specs.declared.Server.{Server}
 use Rattle.server.specs.Hearing.{hears_in}
-use borrow.Author.Rules.{rules}
 use Rattle.server.proofs.Server.hears.Goals as goal
 
 by-role : {a b : Role} → a ≡ b → (s : Server) (h : Heartbeat) → hears_in a s h ≡ hears_in b s h

@@ -1,6 +1,5 @@
 use mathlib.Core.Bool.{◌&&◌}
 use mathlib.Core.Path.{ap₂}
-use borrow.Author.Rules.{rules}
 use Rattle.server.proofs.Server.lower_reveals.Goals as goal
 
 pub returns : goal.returns

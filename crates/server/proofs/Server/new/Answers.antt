@@ -1,7 +1,6 @@
 use mathlib.Core.Path.{sym, ◌∙◌}
 use borrow.Author.Tests.{eq-eqb, ne_eqb}
 use Rattle.lists.proofs.Cases.{chosen, other}
-use borrow.Author.Rules.{rules}
 use Rattle.server.proofs.Server.new.Goals as goal
 
 pub returns-then-identity-eq0 : goal.returns-then-identity-eq0

@@ -1,7 +1,6 @@
 use mathlib.Core.Path.{sym, ◌∙◌}
 use Rattle.lists.proofs.Cases.{chosen, other}
 use Rattle.server.specs.Hearing.{prospect_hears}
-use borrow.Author.Rules.{rules}
 use Rattle.server.proofs.Server.prospect_hears.Goals as goal
 
 pub returns-then-from_higher : goal.returns-then-from_higher

@@ -1,7 +1,6 @@
 use mathlib.Core.Bool.{Bool, not, ◌&&◌}
 use mathlib.Core.Path.{ap₂}
 use Rattle.server.specs.Hearing.{replies}
-use borrow.Author.Rules.{rules}
 use Rattle.server.proofs.Server.replies.Goals as goal
 
 pub returns : goal.returns

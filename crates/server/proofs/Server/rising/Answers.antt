@@ -1,4 +1,3 @@
-use borrow.Author.Rules.{rules}
 use Rattle.server.proofs.Server.rising.Goals as goal
 
 pub returns-in-Prospect : goal.returns-in-Prospect

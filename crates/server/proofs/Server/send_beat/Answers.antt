@@ -1,4 +1,3 @@
-use borrow.Author.Rules.{rules}
 use Rattle.server.proofs.Server.send_beat.Goals as goal
 
 pub returns : goal.returns

@@ -1,5 +1,4 @@
 use Rattle.server.proofs.Timing.{timing}
-use borrow.Author.Rules.{rules}
 use Rattle.server.proofs.Server.timers.Goals as goal
 
 pub returns : goal.returns

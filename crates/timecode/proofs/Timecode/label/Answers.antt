@@ -1,4 +1,3 @@
-use borrow.Author.Rules.{rules}
 use Rattle.timecode.proofs.Trips.{trips}
 use Rattle.timecode.proofs.Timecode.label.Goals as goal
 

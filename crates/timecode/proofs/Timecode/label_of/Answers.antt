@@ -1,4 +1,3 @@
-use borrow.Author.Rules.{rules}
 use Rattle.timecode.proofs.Labels.{label-pairs}
 use Rattle.timecode.proofs.Timecode.label_of.Goals as goal
 

@@ -1,5 +1,4 @@
 use mathlib.Core.Path.{◌∙◌, sym}
-use borrow.Author.Rules.{rules}
 use Rattle.lists.proofs.Cases.{chosen, other}
 use Rattle.timecode.specs.Read.{read_timecode}
 use Rattle.timecode.proofs.Labels.{is-label}

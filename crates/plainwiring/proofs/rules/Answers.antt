@@ -1,14 +1,13 @@
 use borrow.Author.Rules.{rules}
-use Rattle.plainwiring.proofs.rules.Statement.{statement}
-use Rattle.plainwiring.proofs.rules.Tie as tie
 use Rattle.plainwiring.proofs.Group.{plain_groups_play, plain_groups_settle}
 use Rattle.plainwiring.proofs.Playing.{moves_always_go, plain_groups_can_play}
 use Rattle.plainwiring.proofs.Sorting.{plain_sort_is_heard}
+use Rattle.plainwiring.proofs.rules.Goals as goal
 
 -- the number is playout's, and what its contract says of fronts is said of the structs
-returns : tie.Need-returns
+pub returns : goal.returns
 returns c =
-    let rules = c.playout-rules.ensures in
+    let rules = c.playout_rules.ensures in
     record {
       number = rules.number;
       groups = plain_groups_play rules.sheets;
@@ -17,6 +16,3 @@ returns c =
       sorted = plain_sort_is_heard rules.sheets rules.sorted;
       settles = plain_groups_settle rules.sheets rules.settles;
     }
-
-pub rules-spec : {M : Type 1} → statement M
-rules-spec = tie.close (tie.spec (λ c. search rules) returns)
