@@ -2,11 +2,13 @@
 // head of make.py tells the forms of a case and of its answer.
 #![tactic(auto)]
 
-ghost use Rattle.std.specs.Prelude.{◌<◌, ◌≤◌, length};
+ghost use Rattle.std.specs.Prelude.{◌<◌, ◌≤◌, length, IfOk};
+ghost use Rattle.std.specs.Io.{ReadsAtMost};
 
 use heartbeat::{Heartbeat, HeartbeatAnswer, Rank};
-use libc::STDOUT_FILENO;
 use refusal::Refusal;
+use std::io::Read;
+use std::{fs, io};
 use text::{Line, LineAnswer, NumberAnswer, Written};
 use timecode::{Timecode, TimecodeAnswer};
 
@@ -382,12 +384,12 @@ fn end(written: Written) -> usize {
     }
 }
 
-fn print(out: &[u8], n: usize) {
+fn print(rt: &impl Print, out: &[u8], n: usize) -> io::Result<()> {
     let start = 0;
     if n <= out.len() {
-        io::write_all(STDOUT_FILENO, &out[start..n]);
+        rt.write_all(&out[start..n])
     } else {
-        io::write_all(STDOUT_FILENO, b"long?\n");
+        rt.write_all(b"long?\n")
     }
 }
 
@@ -400,42 +402,62 @@ fn past(n: usize, end: usize) -> usize
 }
 
 // Answers the case that tail begins with, and tells where the next one begins.
-fn one(tail: &[u8]) -> usize
+fn one(rt: &impl Print, tail: &[u8]) -> io::Result<usize>
     requires { 0 < length tail.now }
-    ensures { (0 < result) × (result ≤ length tail.now) }
+    ensures { IfOk result (λ next. (0 < next) × (next ≤ length tail.now)) }
 {
     let n = line_length(tail);
     let start = 0;
     let mut out = [0u8; 256];
     let said = answer(&tail[start..n], tail, &mut out);
     let line = said.then_bytes(&mut out, b"\n");
-    print(&out, end(line));
-    past(n, tail.len())
+    print(rt, &out, end(line))?;
+    Ok(past(n, tail.len()))
 }
 
-fn all(file: &[u8]) {
+fn all(rt: &impl Print, file: &[u8]) -> io::Result<()> {
     let mut i = 0;
     while i < file.len() {
-        i += one(&file[i..]);
+        i += one(rt, &file[i..])?;
     }
+    Ok(())
 }
 
-fn run(file: &[u8]) {
+fn run(rt: &impl Print, file: &[u8]) -> io::Result<()> {
     if file.len() < 65536 {
-        all(file);
+        all(rt, file)
     } else {
-        io::write_all(STDOUT_FILENO, b"cases: more than 65,535 bytes\n");
+        rt.write_all(b"cases: more than 65,535 bytes\n")
     }
 }
 
-fn main() {
-    let fd = os::open_read(b"cases");
-    if fd < 0 {
-        io::write_all(STDOUT_FILENO, b"cases: cannot be opened\n");
-        return;
+// Reads until buf is full or the input ends, and answers how many bytes it put at the start of buf.
+fn read_full(from: &mut impl Read, buf: &mut [u8]) -> io::Result<usize>
+    ensures { ReadsAtMost result buf.new }
+{
+    let mut done = 0;
+    while done < buf.len() {
+        let n = from.read(&mut buf[done..])?;
+        if n == 0 {
+            break;
+        }
+        done += n;
     }
-    let mut buffer = io::large_buffer();
-    let n = io::read_full(fd, &mut buffer);
-    libc::close(fd);
-    run(&buffer[..n]);
+    Ok(done)
+}
+
+// The file is closed before its cases are asked.
+fn run_file(rt: &impl Print, file: impl Read + Drop) -> io::Result<()> {
+    let mut from = file;
+    let mut buffer = [0; 65536];
+    let n = read_full(&mut from, &mut buffer)?;
+    drop(from);
+    run(rt, &buffer[..n])
+}
+
+fn main(rt: HostRuntime) -> io::Result<()> {
+    match fs::open(&rt, "cases") {
+        Ok(file) => run_file(&rt, file),
+        Err(_) => rt.write_all(b"cases: cannot be opened\n"),
+    }
 }
