@@ -12,7 +12,8 @@
 // the frame, a digit for the role of each server, and then what was written.
 #![tactic(auto)]
 
-ghost use Rattle.std.specs.Prelude.{◌≡◌, ◌+◌, ◌<◌, ◌≤◌, eqb, length, replicate};
+ghost use Rattle.std.specs.Prelude.{◌≡◌, ◌+◌, ◌<◌, ◌≤◌, eqb, length, replicate, IfOk};
+ghost use Rattle.std.specs.Io.{ReadsAtMost};
 ghost use Rattle.lists.specs.Choice.{choose};
 ghost use Rattle.refusal.specs.Answer.{of_verdict};
 ghost use Rattle.text.specs.Steps.{Pieces};
@@ -23,10 +24,11 @@ ghost use Rattle.cases.specs.Cases.{arg_in, args_in, fillers, Shows, two, table_
 
 use channel::{Answer, Channel};
 use group::{Servers, Table};
-use libc::STDOUT_FILENO;
 use refusal::{Refusal, Verdict};
 use roles::{Role, Verb};
 use server::Server;
+use std::io::Read;
+use std::{fs, io};
 use text::{NumberAnswer, Written};
 
 // ---- the numbers of a line
@@ -267,32 +269,38 @@ fn end(written: Written) -> usize {
     }
 }
 
-fn print(out: &[u8], n: usize) {
+fn print(rt: &impl Print, out: &[u8], n: usize) -> io::Result<()> {
     let start = 0;
     if n <= out.len() {
-        io::write_all(STDOUT_FILENO, &out[start..n]);
+        rt.write_all(&out[start..n])
     } else {
-        io::write_all(STDOUT_FILENO, b"bad answer\n");
+        rt.write_all(b"bad answer\n")
     }
 }
 
-fn say_table(verdict: Verdict, servers: Servers) {
+fn say_table(rt: &impl Print, verdict: Verdict, servers: Servers) -> io::Result<()> {
     let mut out = [0u8; 64];
     let line = put_table(&mut out, number(verdict), servers);
-    print(&out, end(line));
+    print(rt, &out, end(line))
 }
 
-fn say_call(verdict: Verdict, written: usize, channel: Channel, lent: &[u8]) {
+fn say_call(
+    rt: &impl Print,
+    verdict: Verdict,
+    written: usize,
+    channel: Channel,
+    lent: &[u8],
+) -> io::Result<()> {
     if written <= lent.len() {
         let state = channel.state();
         let servers = state.servers;
         let n = fillers(&lent[written..]);
         let mut out = [0u8; 64];
         let line = put_call(&mut out, number(verdict), written, n, state.frame, servers);
-        print(&out, end(line));
-        print(lent, written);
+        print(rt, &out, end(line))?;
+        print(rt, lent, written)
     } else {
-        io::write_all(STDOUT_FILENO, b"bad answer\n");
+        rt.write_all(b"bad answer\n")
     }
 }
 
@@ -389,151 +397,152 @@ impl State {
         next
     }
 
-    fn confused(self) -> State {
-        io::write_all(STDOUT_FILENO, b"bad line\n");
-        self
+    fn confused(self, rt: &impl Print) -> io::Result<State> {
+        rt.write_all(b"bad line\n")?;
+        Ok(self)
     }
 
-    fn call(self, call: Call, lent: &mut [u8]) -> State {
+    fn call(self, rt: &impl Print, call: Call, lent: &mut [u8]) -> io::Result<State> {
         fill(lent);
         let channel = self.channel;
         let answer = answer(channel, call, lent);
         let verdict = answer.verdict;
         let next = answer.channel;
-        say_call(verdict, answer.written, next, lent);
-        self.with_channel(next)
+        say_call(rt, verdict, answer.written, next, lent)?;
+        Ok(self.with_channel(next))
     }
 
-    fn call_if_open(self, call: Call, lent: &mut [u8]) -> State {
+    fn call_if_open(self, rt: &impl Print, call: Call, lent: &mut [u8]) -> io::Result<State> {
         if self.open {
-            self.call(call, lent)
+            self.call(rt, call, lent)
         } else {
-            self.confused()
+            self.confused(rt)
         }
     }
 
     // 0
-    fn clear(self, s: &[u8]) -> State {
+    fn clear(self, rt: &impl Print, s: &[u8]) -> io::Result<State> {
         let args = Args::read(s, 0, 0, 0, 0);
         if args.good {
-            State::new()
+            Ok(State::new())
         } else {
-            self.confused()
+            self.confused(rt)
         }
     }
 
-    fn add(self, identity: u16, priority: u8) -> State {
+    fn add(self, rt: &impl Print, identity: u16, priority: u8) -> io::Result<State> {
         let table = self.table;
         let added = table.add(identity, priority);
         let verdict = added.verdict;
         let next = added.table;
         let servers = next.servers();
-        say_table(verdict, servers);
-        self.with_table(next)
+        say_table(rt, verdict, servers)?;
+        Ok(self.with_table(next))
     }
 
     // 1
-    fn server(self, s: &[u8]) -> State {
+    fn server(self, rt: &impl Print, s: &[u8]) -> io::Result<State> {
         let args = Args::read(s, u16::MAX as u64, u8::MAX as u64, 0, 0);
         if args.good {
-            self.add(args.x as u16, args.y as u8)
+            self.add(rt, args.x as u16, args.y as u8)
         } else {
-            self.confused()
+            self.confused(rt)
         }
     }
 
     // A refused period leaves the channel there was.
-    fn open(self, period: u32) -> State {
+    fn open(self, rt: &impl Print, period: u32) -> io::Result<State> {
         let table = self.table;
         let servers = table.servers();
         let opened = Channel::fresh(table, period);
         let verdict = opened.verdict;
         let channel = opened.channel;
-        say_table(verdict, servers);
+        say_table(rt, verdict, servers)?;
         match verdict {
-            Verdict::Accepted => self.with_channel(channel),
-            Verdict::Refused(_) => self,
+            Verdict::Accepted => Ok(self.with_channel(channel)),
+            Verdict::Refused(_) => Ok(self),
         }
     }
 
     // 2
-    fn fresh(self, s: &[u8]) -> State {
+    fn fresh(self, rt: &impl Print, s: &[u8]) -> io::Result<State> {
         let args = Args::read(s, u32::MAX as u64, 0, 0, 0);
         if args.good {
-            self.open(args.x as u32)
+            self.open(rt, args.x as u32)
         } else {
-            self.confused()
+            self.confused(rt)
         }
     }
 
     // 3
-    fn verb(self, s: &[u8], memory: &mut [u8]) -> State {
+    fn verb(self, rt: &impl Print, s: &[u8], memory: &mut [u8]) -> io::Result<State> {
         let args = Args::read(s, u16::MAX as u64, u16::MAX as u64, 7, memory.len() as u64);
         if args.good {
             let end = args.length as usize;
             let verb = verb_of(args.z);
             self.call_if_open(
+                rt,
                 Call::Act(verb, args.x as u16, args.y as u16),
                 &mut memory[..end],
             )
         } else {
-            self.confused()
+            self.confused(rt)
         }
     }
 
     // 4
-    fn frame(self, s: &[u8], memory: &mut [u8]) -> State {
+    fn frame(self, rt: &impl Print, s: &[u8], memory: &mut [u8]) -> io::Result<State> {
         let args = Args::read(s, 0, 0, 0, memory.len() as u64);
         if args.good {
             let end = args.length as usize;
-            self.call_if_open(Call::Frame, &mut memory[..end])
+            self.call_if_open(rt, Call::Frame, &mut memory[..end])
         } else {
-            self.confused()
+            self.confused(rt)
         }
     }
 
     // 5
-    fn time(self, s: &[u8], memory: &mut [u8]) -> State {
+    fn time(self, rt: &impl Print, s: &[u8], memory: &mut [u8]) -> io::Result<State> {
         let args = Args::read(s, u32::MAX as u64, 0, 0, memory.len() as u64);
         if args.good {
             let end = args.length as usize;
-            self.call_if_open(Call::Time(args.x as u32), &mut memory[..end])
+            self.call_if_open(rt, Call::Time(args.x as u32), &mut memory[..end])
         } else {
-            self.confused()
+            self.confused(rt)
         }
     }
 
-    fn line(self, identity: u16, k: u64, lent: &mut [u8]) -> State {
+    fn line(self, rt: &impl Print, identity: u16, k: u64, lent: &mut [u8]) -> io::Result<State> {
         let refusal = refusal_of(k);
         if (refusal.number() as u64) == k {
-            self.call_if_open(Call::Line(identity, refusal), lent)
+            self.call_if_open(rt, Call::Line(identity, refusal), lent)
         } else {
-            self.confused()
+            self.confused(rt)
         }
     }
 
     // 6
-    fn refusal(self, s: &[u8], memory: &mut [u8]) -> State {
+    fn refusal(self, rt: &impl Print, s: &[u8], memory: &mut [u8]) -> io::Result<State> {
         let args = Args::read(s, u16::MAX as u64, 16, 0, memory.len() as u64);
         if args.good {
             let end = args.length as usize;
-            self.line(args.x as u16, args.y, &mut memory[..end])
+            self.line(rt, args.x as u16, args.y, &mut memory[..end])
         } else {
-            self.confused()
+            self.confused(rt)
         }
     }
 
     // A line of the kind k, after its first field.
-    fn ask(self, k: u8, s: &[u8], memory: &mut [u8]) -> State {
+    fn ask(self, rt: &impl Print, k: u8, s: &[u8], memory: &mut [u8]) -> io::Result<State> {
         match k {
-            b'0' => self.clear(s),
-            b'1' => self.server(s),
-            b'2' => self.fresh(s),
-            b'3' => self.verb(s, memory),
-            b'4' => self.frame(s, memory),
-            b'5' => self.time(s, memory),
-            b'6' => self.refusal(s, memory),
-            _ => self.confused(),
+            b'0' => self.clear(rt, s),
+            b'1' => self.server(rt, s),
+            b'2' => self.fresh(rt, s),
+            b'3' => self.verb(rt, s, memory),
+            b'4' => self.frame(rt, s, memory),
+            b'5' => self.time(rt, s, memory),
+            b'6' => self.refusal(rt, s, memory),
+            _ => self.confused(rt),
         }
     }
 }
@@ -569,30 +578,31 @@ struct Turn {
     next: usize,
 }
 
-fn one(state: State, tail: &[u8], memory: &mut [u8]) -> Turn
+fn one(rt: &impl Print, state: State, tail: &[u8], memory: &mut [u8]) -> io::Result<Turn>
     requires { 0 < length tail.now }
-    ensures { (0 < result.next) × (result.next ≤ length tail.now) }
+    ensures { IfOk result (λ turn. (0 < turn.next) × (turn.next ≤ length tail.now)) }
 {
     let n = line_length(tail);
     let start = 0;
     let line = &tail[start..n];
     let k = kind(line);
-    let after = state.ask(k, text::after_field(line), memory);
-    Turn {
+    let after = state.ask(rt, k, text::after_field(line), memory)?;
+    Ok(Turn {
         state: after,
         next: past(n, tail.len()),
-    }
+    })
 }
 
-fn all(file: &[u8], memory: &mut [u8]) {
+fn all(rt: &impl Print, file: &[u8], memory: &mut [u8]) -> io::Result<()> {
     let mut state = State::new();
     let mut i = 0;
     while i < file.len() {
-        let turn = one(state, &file[i..], memory);
+        let turn = one(rt, state, &file[i..], memory)?;
         let next = turn.state;
         state = next;
         i += turn.next;
     }
+    Ok(())
 }
 
 const MOST: usize = 262144;
@@ -601,23 +611,42 @@ fn room() -> [u8; MOST] {
     [0; MOST]
 }
 
-fn run(file: &[u8]) {
+fn run(rt: &impl Print, file: &[u8]) -> io::Result<()> {
     if file.len() < MOST {
-        let mut memory = io::large_buffer();
-        all(file, &mut memory);
+        let mut memory = [0; 65536];
+        all(rt, file, &mut memory)
     } else {
-        io::write_all(STDOUT_FILENO, b"lists: more than 262,143 bytes\n");
+        rt.write_all(b"lists: more than 262,143 bytes\n")
     }
 }
 
-fn main() {
-    let fd = os::open_read(b"lists");
-    if fd < 0 {
-        io::write_all(STDOUT_FILENO, b"lists: cannot be opened\n");
-        return;
+// Reads until buf is full or the input ends, and answers how many bytes it put at the start of buf.
+fn read_full(from: &mut impl Read, buf: &mut [u8]) -> io::Result<usize>
+    ensures { ReadsAtMost result buf.new }
+{
+    let mut done = 0;
+    while done < buf.len() {
+        let n = from.read(&mut buf[done..])?;
+        if n == 0 {
+            break;
+        }
+        done += n;
     }
+    Ok(done)
+}
+
+// The file is closed before its lines are asked.
+fn run_file(rt: &impl Print, file: impl Read + Drop) -> io::Result<()> {
+    let mut from = file;
     let mut buffer = room();
-    let n = io::read_full(fd, &mut buffer);
-    libc::close(fd);
-    run(&buffer[..n]);
+    let n = read_full(&mut from, &mut buffer)?;
+    drop(from);
+    run(rt, &buffer[..n])
+}
+
+fn main(rt: HostRuntime) -> io::Result<()> {
+    match fs::open(&rt, "lists") {
+        Ok(file) => run_file(&rt, file),
+        Err(_) => rt.write_all(b"lists: cannot be opened\n"),
+    }
 }
