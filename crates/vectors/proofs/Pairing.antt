@@ -1,5 +1,5 @@
 -- What is found of pairs, one after the other. Assumes nothing.
-use Rattle.std.proofs.Common.{◌≡◌, ℕ, zero, suc, ◌+◌, ◌-◌, ◌≤◌, true, false, ◌&&◌, ltb, leb, List, length, sym, refl, ap, ◌∙◌, ap₂, arith, ltb-false, eq-eqb, ne_eqb, leb-true}
+use Rattle.std.proofs.Common.{◌≡◌, ℕ, zero, suc, ◌+◌, ◌-◌, ◌≤◌, true, false, ◌&&◌, ltb, leb, List, length, sym, refl, ap, ◌∙◌, ap₂, arith, ltb-false, eq-eqb, ne_eqb, leb-true, Result, Ok, Err, IfOk}
 use Rattle.lists.proofs.Cases.{tested, on, chosen, other, snd_true}
 use Rattle.departure.specs.declared.Departure.{Departure}
 use Rattle.departure.specs.Departure.{line_number, judged}
@@ -25,6 +25,11 @@ module _
   pub pair_differs : (m ≡ p.answer → ⊥) → Answer ≡ pair_found s p
   unfolding pair_found
   pair_differs h = sym (other _ (ne_eqb _ _ (λ z. h (answered ∙ z))))
+
+-- what follows of a value, where there is one
+pub if_ok : {T E : Type 0} {P Q : T → Type 0} (r : Result T E) → ((t : T) → P t → Q t) → IfOk r P → IfOk r Q
+if_ok (Ok t) f h = f t h
+if_ok (Err e) f h = h
 
 -- a pair more
 module _ (s : List ℕ) (t : Tally) {p : Pair} (e : p ≡ pair_at s t.at) where

@@ -16,15 +16,17 @@
 // many agree.
 #![tactic(auto)]
 
-ghost use Rattle.std.specs.Prelude.{◌≡◌, ◌+◌, ◌*◌, ◌%◌, ◌^◌, ◌<◌, ◌≤◌, length};
-ghost use Rattle.io.specs.Counts.{IsPrefixLen};
+ghost use Rattle.std.specs.Prelude.{◌≡◌, ◌+◌, ◌*◌, ◌%◌, ◌^◌, ◌<◌, ◌≤◌, length, IfOk};
+ghost use Rattle.std.specs.Io.{ReadsAtMost};
 ghost use Rattle.text.specs.Steps.{Pieces};
 ghost use Rattle.vectors.specs.Check.{stepped, check_of};
 ghost use Rattle.vectors.specs.Days.{start_at, with_field, next_number, line_at, day_of, compared, sheet_compared, part, found_at};
 ghost use Rattle.vectors.specs.Tally.{agreeing, Counted, beginning, counted, stopped};
 ghost use Rattle.vectors.specs.Pairs.{pair_at, pair_found, next_pair, pairs_from};
 
-use libc::STDOUT_FILENO;
+use std::io::Read;
+use std::rt::Files;
+use std::{fs, io, str};
 use text::{NumberAnswer, Written};
 
 // ---- numbers
@@ -313,27 +315,27 @@ fn one_pair(file: &[u8], pair: Pair) -> Found
 // ---- what is said
 
 // Says something of the k-th day or pair.
-fn say(noun: &[u8], k: u64, what: &[u8]) -> u64
-    ensures { result ≡ 0 }
+fn say(rt: &impl Print, noun: &[u8], k: u64, what: &[u8]) -> io::Result<u64>
+    ensures { IfOk result (λ n. n ≡ 0) }
 {
-    io::write_all(STDOUT_FILENO, noun);
-    io::write_all(STDOUT_FILENO, b" ");
-    io::print_decimal(STDOUT_FILENO, k);
-    io::write_all(STDOUT_FILENO, what);
-    0
+    rt.write_all(noun)?;
+    rt.write_all(b" ")?;
+    rt.print(k)?;
+    rt.write_all(what)?;
+    Ok(0)
 }
 
 // Says what differs in the k-th; 1 where it agrees.
-fn tell(noun: &[u8], k: u64, found: Found) -> u64
-    ensures { result ≡ agreeing found }
+fn tell(rt: &impl Print, noun: &[u8], k: u64, found: Found) -> io::Result<u64>
+    ensures { IfOk result (λ n. n ≡ agreeing found) }
 {
     match found {
-        Found::Agrees => 1,
-        Found::Length => say(noun, k, b": length\n"),
-        Found::Bytes => say(noun, k, b": bytes\n"),
-        Found::Check => say(noun, k, b": check\n"),
-        Found::TooLong => say(noun, k, b": too long\n"),
-        Found::Answer => say(noun, k, b": answer\n"),
+        Found::Agrees => Ok(1),
+        Found::Length => say(rt, noun, k, b": length\n"),
+        Found::Bytes => say(rt, noun, k, b": bytes\n"),
+        Found::Check => say(rt, noun, k, b": check\n"),
+        Found::TooLong => say(rt, noun, k, b": too long\n"),
+        Found::Answer => say(rt, noun, k, b": answer\n"),
     }
 }
 
@@ -370,100 +372,130 @@ impl Tally {
     }
 
     // After the k-th, which ends at the place `end`.
-    fn with(self, noun: &[u8], k: u64, found: Found, end: usize, repeats: u64) -> Tally
+    fn with(
+        self,
+        rt: &impl Print,
+        noun: &[u8],
+        k: u64,
+        found: Found,
+        end: usize,
+        repeats: u64,
+    ) -> io::Result<Tally>
         requires { ((self.agree < 2097152) × (self.repeated < 2097152)) × (repeats ≤ 1) }
-        ensures { result ≡ counted self found end repeats }
+        ensures { IfOk result (λ t. t ≡ counted self found end repeats) }
     {
-        Tally {
+        let agrees = tell(rt, noun, k, found)?;
+        Ok(Tally {
             at: end,
-            agree: self.agree + tell(noun, k, found),
+            agree: self.agree + agrees,
             repeated: self.repeated + repeats,
             good: true,
-        }
+        })
     }
 
     // The k-th is not well written.
-    fn stop(self, noun: &[u8], k: u64) -> Tally
-        ensures { result ≡ stopped self }
+    fn stop(self, rt: &impl Print, noun: &[u8], k: u64) -> io::Result<Tally>
+        ensures { IfOk result (λ t. t ≡ stopped self) }
     {
-        say(noun, k, b": not well written\n");
-        Tally {
+        say(rt, noun, k, b": not well written\n")?;
+        Ok(Tally {
             at: self.at,
             agree: self.agree,
             repeated: self.repeated,
             good: false,
-        }
+        })
     }
 
     // The day after k others.
-    fn next(self, k: u64, file: &[u8], day: &mut [u8], out: &mut [u8]) -> Tally
+    fn next(
+        self,
+        rt: &impl Print,
+        k: u64,
+        file: &[u8],
+        day: &mut [u8],
+        out: &mut [u8],
+    ) -> io::Result<Tally>
         requires { Counted (length file.now) k self × ((length file.now ≤ 1703936) × (k < 2097152)) }
-        ensures { Counted (length file.now) (k + 1) result }
+        ensures { IfOk result (λ t. Counted (length file.now) (k + 1) t) }
     {
         let line = Line::read(file, self.at);
         if line.good & (line.end <= file.len()) {
             let found = one(file, line, day, out);
-            self.with(b"day", k + 1, found, line.end, repeats(line))
+            self.with(rt, b"day", k + 1, found, line.end, repeats(line))
         } else {
-            self.stop(b"day", k + 1)
+            self.stop(rt, b"day", k + 1)
         }
     }
 
     // The pair after k others.
-    fn next_pair(self, k: u64, file: &[u8]) -> Tally
+    fn next_pair(self, rt: &impl Print, k: u64, file: &[u8]) -> io::Result<Tally>
         requires { Counted (length file.now) k self × ((length file.now ≤ 1703936) × (k < 2097152)) }
-        ensures { result ≡ next_pair file.now self }
+        ensures { IfOk result (λ t. t ≡ next_pair file.now self) }
     {
         let pair = Pair::read(file, self.at);
         if pair.good & (pair.end <= file.len()) {
             let found = one_pair(file, pair);
-            self.with(b"pair", k + 1, found, pair.end, 0)
+            self.with(rt, b"pair", k + 1, found, pair.end, 0)
         } else {
-            self.stop(b"pair", k + 1)
+            self.stop(rt, b"pair", k + 1)
         }
     }
 }
 
 // All days, the first of which is at the place `at`.
-fn all(file: &[u8], at: usize, count: u64, day: &mut [u8], out: &mut [u8]) -> Tally
+fn all(
+    rt: &impl Print,
+    file: &[u8],
+    at: usize,
+    count: u64,
+    day: &mut [u8],
+    out: &mut [u8],
+) -> io::Result<Tally>
     requires { (at ≤ length file.now) × ((length file.now ≤ 1703936) × (count ≤ 2097152)) }
 {
     let mut tally = Tally::begin(at);
     let mut k: u64 = 0;
     while (k < count) & tally.good {
-        let next = tally.next(k, file, day, out);
+        let next = tally.next(rt, k, file, day, out)?;
         tally = next;
         k += 1;
     }
-    tally
+    Ok(tally)
 }
 
 // All pairs, the first of which is at the place `at`.
-fn all_pairs(file: &[u8], at: usize, count: u64) -> Tally
+fn all_pairs(rt: &impl Print, file: &[u8], at: usize, count: u64) -> io::Result<Tally>
     requires { (at ≤ length file.now) × ((length file.now ≤ 1703936) × (count ≤ 2097152)) }
-    ensures { result ≡ pairs_from count file.now (beginning at) }
+    ensures { IfOk result (λ t. t ≡ pairs_from count file.now (beginning at)) }
 {
     let mut tally = Tally::begin(at);
     let mut k: u64 = 0;
     while (k < count) & tally.good {
-        let next = tally.next_pair(k, file);
+        let next = tally.next_pair(rt, k, file)?;
         tally = next;
         k += 1;
     }
-    tally
+    Ok(tally)
 }
 
 // Says how many agree, and whether a file of n bytes is not as its first line says: that line is
 // not good, or something follows the last day or pair, or not so many have a repeated part.
-fn finish(noun: &[u8], tally: Tally, good: bool, n: usize, repeated: u64) {
+fn finish(
+    rt: &impl Print,
+    noun: &[u8],
+    tally: Tally,
+    good: bool,
+    n: usize,
+    repeated: u64,
+) -> io::Result<()> {
     if !good | (tally.good & ((tally.at != n) | (tally.repeated != repeated))) {
-        io::write_all(STDOUT_FILENO, noun);
-        io::write_all(STDOUT_FILENO, b"s: not as its first line says\n");
+        rt.write_all(noun)?;
+        rt.write_all(b"s: not as its first line says\n")?;
     }
-    io::print_decimal(STDOUT_FILENO, tally.agree);
-    io::write_all(STDOUT_FILENO, b" ");
-    io::write_all(STDOUT_FILENO, noun);
-    io::write_all(STDOUT_FILENO, b"s agree\n");
+    rt.print(tally.agree)?;
+    rt.write_all(b" ")?;
+    rt.write_all(noun)?;
+    rt.write_all(b"s agree\n")
 }
 
 // Room for the days, for a day or for a sheet.
@@ -472,63 +504,85 @@ fn room() -> [u8; 1703936] {
 }
 
 // The days, of which the first line says how many there are and how many have a repeated part.
-fn run(file: &[u8])
+fn run(rt: &impl Print, file: &[u8]) -> io::Result<()>
     requires { length file.now ≤ 1703936 }
 {
     let count = Number::start(0).next(file, b'\t', Number::MOST);
     let repeated = count.next(file, b'\n', Number::MOST);
     let mut day = room();
     let mut out = room();
-    let tally = all(file, repeated.at, count.n, &mut day, &mut out);
-    finish(b"day", tally, repeated.good, file.len(), repeated.n);
+    let tally = all(rt, file, repeated.at, count.n, &mut day, &mut out)?;
+    finish(rt, b"day", tally, repeated.good, file.len(), repeated.n)
 }
 
 // The pairs, of which the first line says how many there are.
-fn run_pairs(file: &[u8])
+fn run_pairs(rt: &impl Print, file: &[u8]) -> io::Result<()>
     requires { length file.now ≤ 1703936 }
 {
     let count = Number::start(0).next(file, b'\n', Number::MOST);
-    let tally = all_pairs(file, count.at, count.n);
-    finish(b"pair", tally, count.good, file.len(), 0);
+    let tally = all_pairs(rt, file, count.at, count.n)?;
+    finish(rt, b"pair", tally, count.good, file.len(), 0)
+}
+
+// Opens a file to read it. What is no text names no file.
+fn open<R: Files>(rt: &R, name: &[u8]) -> Option<R::File> {
+    let path = str::from_utf8(name).ok()?;
+    fs::open(rt, path).ok()
+}
+
+// Reads until buf is full or the input ends, and answers how many bytes it put at the start of buf.
+fn read_full(from: &mut impl Read, buf: &mut [u8]) -> io::Result<usize>
+    ensures { ReadsAtMost result buf.new }
+{
+    let mut done = 0;
+    while done < buf.len() {
+        let n = from.read(&mut buf[done..])?;
+        if n == 0 {
+            break;
+        }
+        done += n;
+    }
+    Ok(done)
 }
 
 // Reads a file, and answers its length. Where it cannot be opened or fills the room, says so, and
 // answers the length of the room.
-fn load(name: &[u8], file: &mut [u8]) -> usize
-    ensures { IsPrefixLen result file.new }
+fn load(rt: &(impl Files + Print), name: &[u8], file: &mut [u8]) -> io::Result<usize>
+    ensures { ReadsAtMost result file.new }
 {
-    let fd = os::open_read(name);
-    if fd < 0 {
-        io::write_all(STDOUT_FILENO, name);
-        io::write_all(STDOUT_FILENO, b": cannot be opened\n");
-        return file.len();
-    }
-    let n = io::read_full(fd, file);
-    libc::close(fd);
+    let Some(mut from) = open(rt, name) else {
+        rt.write_all(name)?;
+        rt.write_all(b": cannot be opened\n")?;
+        return Ok(file.len());
+    };
+    let n = read_full(&mut from, file)?;
+    drop(from);
     if n >= file.len() {
-        io::write_all(STDOUT_FILENO, name);
-        io::write_all(STDOUT_FILENO, b": too long\n");
+        rt.write_all(name)?;
+        rt.write_all(b": too long\n")?;
     }
-    n
+    Ok(n)
 }
 
-fn days() {
+fn days(rt: &(impl Files + Print)) -> io::Result<()> {
     let mut file = room();
-    let n = load(b"days", &mut file);
+    let n = load(rt, b"days", &mut file)?;
     if n < file.len() {
-        run(&file[..n]);
+        run(rt, &file[..n])?;
     }
+    Ok(())
 }
 
-fn pairs() {
+fn pairs(rt: &(impl Files + Print)) -> io::Result<()> {
     let mut file = [0; 262144];
-    let n = load(b"pairs", &mut file);
+    let n = load(rt, b"pairs", &mut file)?;
     if n < file.len() {
-        run_pairs(&file[..n]);
+        run_pairs(rt, &file[..n])?;
     }
+    Ok(())
 }
 
-fn main() {
-    days();
-    pairs();
+fn main(rt: HostRuntime) -> io::Result<()> {
+    days(&rt)?;
+    pairs(&rt)
 }
