@@ -29,6 +29,3 @@ rest h few e =
     let from = e.0 in
     let to = e.1 in
     record { ordered = omega arith; within = omega arith }
-
-pub same : {b : List ℕ} {x y : Source} → y ≡ x → Holds b x → Holds b y
-same e h = rw e h

@@ -7,7 +7,7 @@
 // that an input does, so the loop counts its turns down from a number that no run uses up.
 #![tactic(auto)]
 
-ghost use Rattle.std.specs.Prelude.{◌≡◌, ◌+◌, ◌≤◌};
+ghost use Rattle.std.specs.Prelude.{◌≡◌, ◌+◌, ◌≤◌, length};
 ghost use Rattle.accept.specs.Steps.{Holds};
 
 use departure::Departure;
@@ -15,14 +15,16 @@ use feed::Feed;
 use group::{Links, Table};
 use judge::Judge;
 use judging::Judgement;
-use libc::STDOUT_FILENO;
 use places::Packed;
+use std::fs::File;
+use std::io::{Error, ErrorKind, Read};
+use std::process::ExitCode;
+use std::rt::Files;
 
-// An input: what was read of it and not taken, from a place of its buffer to another; whether it
-// has ended; and whether it cannot be read.
+// An input, beside its file and its buffer: what was read of it and not taken, from a place of the
+// buffer to another; whether it has ended; and whether it cannot be read.
 #[derive(Clone, Copy)]
 struct Source {
-    fd: i32,
     from: usize,
     to: usize,
     ended: bool,
@@ -30,15 +32,14 @@ struct Source {
 }
 
 impl Source {
-    fn open(path: &[u8]) -> Source
+    // Where no file could be opened, it has ended.
+    fn open(file: &Option<impl Read>) -> Source
         ensures { (result.from ≡ 0) × (result.to ≡ 0) }
     {
-        let fd = os::open_read(path);
         Source {
-            fd,
             from: 0,
             to: 0,
-            ended: fd < 0,
+            ended: file.is_none(),
             failed: false,
         }
     }
@@ -48,7 +49,6 @@ impl Source {
         ensures { (result.from ≡ 0) × (result.to ≡ n) }
     {
         Source {
-            fd: self.fd,
             from: 0,
             to: n,
             ended: n == 0,
@@ -57,16 +57,16 @@ impl Source {
     }
 
     // A read that failed. One that a signal cut short is made again, and a folder has ended.
-    fn with_error(self, error: i32, what: &[u8]) -> Source
+    fn with_error(self, rt: &impl Eprint, error: &Error, what: &str) -> Source
         ensures { (result.from ≡ 0) × (result.to ≡ 0) }
     {
-        let ended = error == libc::EISDIR;
-        let failed = !(ended | (error == libc::EINTR));
+        let kind = error.kind();
+        let ended = kind == ErrorKind::IsADirectory;
+        let failed = !(ended | (kind == ErrorKind::Interrupted));
         if failed {
-            os::fail(what);
+            fail(rt, what, error);
         }
         Source {
-            fd: self.fd,
             from: 0,
             to: 0,
             ended,
@@ -74,25 +74,40 @@ impl Source {
         }
     }
 
-    fn read(self, buffer: &mut [u8], what: &[u8]) -> Source
+    fn read(
+        self,
+        rt: &impl Eprint,
+        file: &mut Option<impl Read>,
+        buffer: &mut [u8],
+        what: &str,
+    ) -> Source
         ensures { Holds buffer.new result }
     {
-        let got = libc::read(self.fd, buffer);
-        if got < 0 {
-            return self.with_error(os::errno(), what);
+        match file {
+            None => self.with_read(0),
+            Some(file) => match file.read(buffer) {
+                Ok(n) => self.with_read(n),
+                Err(error) => self.with_error(rt, &error, what),
+            },
         }
-        self.with_read(io::count(got, buffer))
     }
 
     // Reads once where more is wanted, all was taken and the input has not ended.
-    fn filled(self, wanted: bool, buffer: &mut [u8], what: &[u8]) -> Source
+    fn filled(
+        self,
+        rt: &impl Eprint,
+        wanted: bool,
+        file: &mut Option<impl Read>,
+        buffer: &mut [u8],
+        what: &str,
+    ) -> Source
         requires { Holds buffer.old self }
         ensures { Holds buffer.new result }
     {
         if !wanted | self.ended | (self.from < self.to) {
             return self;
         }
-        self.read(buffer, what)
+        self.read(rt, file, buffer, what)
     }
 
     // n bytes more are taken.
@@ -101,7 +116,6 @@ impl Source {
         ensures { (result.from ≡ self.from + n) × (result.to ≡ self.to) }
     {
         Source {
-            fd: self.fd,
             from: self.from + n,
             to: self.to,
             ended: self.ended,
@@ -129,10 +143,12 @@ impl Run {
     // have come may print much, and need no byte for it.
     fn give_day(
         self,
+        rt: &impl Eprint,
         line: &mut [u8; Feed::LINE],
         words: &mut Packed,
         whole: &mut Links,
         due: &mut [u8; Judge::DUE],
+        file: &mut Option<impl Read>,
         buffer: &mut [u8],
     ) -> Run
         requires { Holds buffer.old self.day }
@@ -146,9 +162,11 @@ impl Run {
         let next = given.judge;
         let rest = source.without(given.used);
         let day = rest.filled(
+            rt,
             next.asks(due),
+            file,
             buffer,
-            b"accept: the day cannot be read (check the file, run again)",
+            "accept: the day cannot be read (check the file, run again)",
         );
         let sheet = self.sheet;
         Run {
@@ -159,15 +177,23 @@ impl Run {
     }
 
     // Gives the judge what there is of the sheet.
-    fn give_sheet(self, due: &[u8; Judge::DUE], buffer: &mut [u8]) -> Run
+    fn give_sheet(
+        self,
+        rt: &impl Eprint,
+        due: &[u8; Judge::DUE],
+        file: &mut Option<impl Read>,
+        buffer: &mut [u8],
+    ) -> Run
         requires { Holds buffer.old self.sheet }
         ensures { Holds buffer.new result.sheet × (result.day ≡ self.day) }
     {
         let source = self.sheet;
         let sheet = source.filled(
+            rt,
             true,
+            file,
             buffer,
-            b"accept: the sheet cannot be read (check the file, run again)",
+            "accept: the sheet cannot be read (check the file, run again)",
         );
         let from = sheet.from;
         let to = sheet.to;
@@ -186,10 +212,13 @@ impl Run {
     // The day where the judge asks for it, else the sheet.
     fn turn(
         self,
+        rt: &impl Eprint,
         line: &mut [u8; Feed::LINE],
         words: &mut Packed,
         whole: &mut Links,
         due: &mut [u8; Judge::DUE],
+        day_file: &mut Option<impl Read>,
+        sheet_file: &mut Option<impl Read>,
         day: &mut [u8],
         sheet: &mut [u8],
     ) -> Run
@@ -198,19 +227,22 @@ impl Run {
     {
         let judge = self.judge;
         if judge.asks(due) {
-            self.give_day(line, words, whole, due, day)
+            self.give_day(rt, line, words, whole, due, day_file, day)
         } else {
-            self.give_sheet(due, sheet)
+            self.give_sheet(rt, due, sheet_file, sheet)
         }
     }
 
     // Turns until it is decided, or cannot be.
     fn finish(
         self,
+        rt: &impl Eprint,
         line: &mut [u8; Feed::LINE],
         words: &mut Packed,
         whole: &mut Links,
         due: &mut [u8; Judge::DUE],
+        day_file: &mut Option<impl Read>,
+        sheet_file: &mut Option<impl Read>,
         day: &mut [u8],
         sheet: &mut [u8],
     ) -> Judgement
@@ -219,62 +251,104 @@ impl Run {
         let mut now = self;
         let mut turns = u64::MAX;
         while (turns > 0) & now.goes() {
-            let next = now.turn(line, words, whole, due, day, sheet);
+            let next = now.turn(
+                rt, line, words, whole, due, day_file, sheet_file, day, sheet,
+            );
             now = next;
             turns -= 1;
         }
-        lasts(turns);
+        lasts(rt, turns);
         let judge = now.judge;
         judge.judgement()
     }
 }
 
+// Room for what one read brings.
+fn room() -> [u8; 65536]
+    ensures { 65536 ≡ length result }
+{
+    [0; 65536]
+}
+
+// Says on standard error what went wrong. Where that cannot be said either, the status is left.
+fn say(rt: &impl Eprint, what: &str) {
+    let _ = eprintln!(rt; "{what}");
+}
+
+// Says what failed, and why.
+fn fail(rt: &impl Eprint, what: &str, why: &Error) {
+    let _ = eprintln!(rt; "{what}: {why}");
+}
+
 // Says so where no turns are left.
-fn lasts(turns: u64) {
+fn lasts(rt: &impl Eprint, turns: u64) {
     if turns == 0 {
-        os::fail(b"accept: more turns than can be counted");
+        say(rt, "accept: more turns than can be counted");
     }
 }
 
-// The answer, with a line feed; whether it was written.
-fn print(departure: Departure) -> bool {
+// The answer, with a line feed.
+fn print(rt: &impl Print, departure: Departure) -> Result<(), Error> {
     match departure {
-        Departure::Same => io::write_all(STDOUT_FILENO, b"same\n"),
-        Departure::At(line) => {
-            io::print_decimal(STDOUT_FILENO, line) && io::write_all(STDOUT_FILENO, b"\n")
+        Departure::Same => rt.println("same"),
+        Departure::At(line) => rt.println(line),
+    }
+}
+
+// Prints the answer, or says that it cannot; whether it was written.
+fn answer(rt: &(impl Print + Eprint), departure: Departure) -> bool {
+    match print(rt, departure) {
+        Ok(()) => true,
+        Err(why) => {
+            fail(rt, "accept: the answer cannot be written", &why);
+            false
         }
     }
 }
 
-// Prints the answer, or says that it cannot.
-fn answer(departure: Departure) {
-    if !print(departure) {
-        os::fail(b"accept: the answer cannot be written");
-    }
-}
-
-// Nothing is printed where nothing was decided: the reason was said.
-fn tell(judgement: Judgement) {
+// Nothing is printed where nothing was decided: the reason was said. Whether an answer was written.
+fn tell(rt: &(impl Print + Eprint), judgement: Judgement) -> bool {
     match judgement {
-        Judgement::Open => {}
-        Judgement::Decided(departure) => answer(departure),
+        Judgement::Open => false,
+        Judgement::Decided(departure) => answer(rt, departure),
     }
 }
 
-fn main() {
+// The file of that name, if it can be opened.
+fn opened<R: Files>(rt: &R, path: &str) -> Option<R::File> {
+    File::open(rt, path).ok()
+}
+
+// The status is 0 where an answer was printed, else 1, and then what went wrong was said.
+fn main(rt: HostRuntime) -> ExitCode {
     let mut line = [0; Feed::LINE];
     let mut words = [0; places::PACKED];
     let mut whole = [true; Table::LINKS];
     let mut due = [0; Judge::DUE];
-    let mut day = io::large_buffer();
-    let mut sheet = io::large_buffer();
+    let mut day = room();
+    let mut sheet = room();
+    let judge = Judge::begin(&mut due);
+    let mut day_file = opened(&rt, "day");
+    let mut sheet_file = opened(&rt, "sheet");
     let run = Run {
-        judge: Judge::begin(&mut due),
-        day: Source::open(b"day"),
-        sheet: Source::open(b"sheet"),
+        judge,
+        day: Source::open(&day_file),
+        sheet: Source::open(&sheet_file),
     };
     let judgement = run.finish(
-        &mut line, &mut words, &mut whole, &mut due, &mut day, &mut sheet,
+        &rt,
+        &mut line,
+        &mut words,
+        &mut whole,
+        &mut due,
+        &mut day_file,
+        &mut sheet_file,
+        &mut day,
+        &mut sheet,
     );
-    tell(judgement);
+    if tell(&rt, judgement) {
+        ExitCode::SUCCESS
+    } else {
+        ExitCode::FAILURE
+    }
 }

@@ -1,0 +1,8 @@
+use Rattle.accept.proofs.Taking.{day-within, fits, rest}
+use Rattle.accept.proofs.Run.give_day.Goals as goal
+
+pub without-rest-requires : goal.without-rest-requires
+without-rest-requires g c = fits c.requires (day-within c.take_day-given.ensures)
+
+pub filled-day-requires : goal.filled-day-requires
+filled-day-requires g c = rest c.requires (day-within c.take_day-given.ensures) c.without-rest.ensures
