@@ -30,7 +30,7 @@ module _ (t : Table) (n : ℕ) (ks d e : List ℕ) where
   listed = calls_of (length d) ks
 
   -- what the list as a whole gets: 2, 6 or 7 where no channel is opened, 9 where e has fewer places
-  -- than there are calls. Then no call is made, and `noChannel` is handed back, on which document
+  -- than there are calls. Then no call is made, and `no_channel` is handed back, on which document
   -- 01 is silent
   unfoldable pub list_refusal : ℕ
   list_refusal = choose (eqb (fresh_refusal t n) 0) (choose (leb (length listed) (length e)) 0 9) (fresh_refusal t n)

@@ -19,7 +19,7 @@ use Rattle.channel.specs.declared.Within.{Within}
 abbrev pub state : Channel → State
 state c = c.state
 
--- the fresh channel of the table t with the period n, or `noChannel` where it is refused, on which
+-- the fresh channel of the table t with the period n, or `no_channel` where it is refused, on which
 -- document 01 is silent
 pub record Opens (t : Table) (n : ℕ) (r : Opened) : Type 0 where
   pub number : of_verdict r.verdict ≡ fresh_refusal t n

@@ -34,7 +34,7 @@ channel_of f w k = state_of f.frame f.period (servers_of w) k
 
 -- what a feed stands for with all that is lent to it, l being the bytes of the line. It forgets the
 -- bytes behind those that have come, numbers and links before the period has come, and which
--- numbers stand for the same servers. Contracts decide these too (`Leaves`, `lineTaken`), but for
+-- numbers stand for the same servers. Contracts decide these too (`Leaves`, `line_taken`), but for
 -- numbers that are not canonical and were lent after the period had come
 abbrev pub fed_of : Feed → List ℕ → List ℕ → List Bool → Fed
 fed_of f l w k = record { over = f.over; number = f.number; line = take f.length l; day = day_of f.stage (channel_of f w k) }
@@ -85,7 +85,7 @@ line_taken f s l = splice l (length f.line) (take (taken_bytes f s) s)
 
 -- The feed x, the numbers w and the links k become x', w' and k' where n bytes are taken and f is
 -- known. The period's line writes every number anew, so those lent before it may be any; of numbers
--- lent later that are not canonical, made by another hand, the servers are decided (`fedOf`)
+-- lent later that are not canonical, made by another hand, the servers are decided (`fed_of`)
 pub record Leaves (x : Feed) (w : List ℕ) (k : List Bool) (n : ℕ) (f : Fed) (x' : Feed) (w' : List ℕ) (k' : List Bool) : Type 0 where
   pub feed : x' ≡ feed_after x n f
   pub words : Canonical w → w' ≡ words_after w f

@@ -44,7 +44,7 @@ SteppingKeepsBounds = (f : Fed) (room : ℕ) → Bounded f → Bounded (step_mov
 abbrev pub PairsKeepBounds : Type 0
 PairsKeepBounds = (f : Fed) (room : ℕ) → Bounded f → Bounded (steps_move f room).fed
 
--- with a slice of `stepBytes` no step gets 9, nor do two, nor does the last move
+-- with a slice of `step_bytes` no step gets 9, nor do two, nor does the last move
 abbrev pub StepsFit : Type 0
 StepsFit = (f : Fed) (room : ℕ) → Bounded f → step_bytes ≤ room → length (step_move f room).lines ≤ room
 

@@ -46,7 +46,7 @@ fitting (suc n) c room =
 abbrev pub frames_within : State → ℕ → ℕ → ℕ
 frames_within c t room = fitting (t - c.frame) c room
 
--- "9", where there are frames to go and not even one fits. Like `timeGoes` it knows no end of the
+-- "9", where there are frames to go and not even one fits. Like `time_goes` it knows no end of the
 -- day
 abbrev pub within_goes : State → ℕ → ℕ → Outcome
 within_goes c t room =

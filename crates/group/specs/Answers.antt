@@ -28,7 +28,7 @@ pub record Takes (l : List Server) (r : Added) : Type 0 where
 abbrev pub no_channel : State
 no_channel = fresh empty least_period
 
--- the fresh channel of the table t with the period n, or `noChannel` where it is refused
+-- the fresh channel of the table t with the period n, or `no_channel` where it is refused
 pub record Opens (t : Table) (n : ℕ) (r : Opened) : Type 0 where
   pub number : of_verdict r.verdict ≡ fresh_refusal t n
   pub state : r.state ≡ choose (eqb (fresh_refusal t n) 0) (fresh t n) no_channel

@@ -52,7 +52,7 @@ pub record IsMade (l : List Server) : Type 0 where
   pub ranks : List Rank
   pub made : table_of ranks ≡ record { servers = l }
 
--- `isTable` holds of the servers that adding makes, and of no others
+-- `is_table` holds of the servers that adding makes, and of no others
 pub record AddingMakes : Type 0 where
   pub each : (rs : List Rank) → is_table (table_of rs).servers ≡ true
   pub only : (l : List Server) → is_table l ≡ true → IsMade l
@@ -194,7 +194,7 @@ OtherLinksStay =
     (c : State) (v : Verb) (a b : ℕ) (d : List ℕ) (i j : ℕ) → link_of i j ≢ link_of (place_of c a) (place_of c b) →
     whole (call_channel c (verb v a b d)) i j ≡ whole c i j
 
--- an accepted `cut` or `mend` leaves its link as `cutByVerb` says, another verb as it was
+-- an accepted `cut` or `mend` leaves its link as `cut_by_verb` says, another verb as it was
 abbrev pub ItsLinkIsAsCut : Type 0
 ItsLinkIsAsCut =
     (c : State) (v : Verb) (a b : ℕ) (d : List ℕ) → call_number c (verb v a b d) ≡ 0 → link_of (place_of c a) (place_of c b) < length c.whole →

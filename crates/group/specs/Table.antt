@@ -14,7 +14,7 @@ use Rattle.group.specs.declared.State.{State}
 abbrev pub most : ℕ
 most = 16
 
--- The table of no server; every table is made from it by adding servers (`isTable`, below). "Each
+-- The table of no server; every table is made from it by adding servers (`is_table`, below). "Each
 -- has an identity 1..65,535 .. and a priority 0..255.": no greater ones can stand in the struct, by
 -- its types
 abbrev pub empty : Table

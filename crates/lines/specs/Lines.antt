@@ -35,7 +35,7 @@ abbrev pub refused_word : ℕ → List ℕ
 refused_word n = bytes "refused-" ++ digits n
 
 -- "the sheet line of a refusal": of a call of server i in frame t. An input refusal has a line of
--- another form (`inputRefusal` of the crate day); on this one with such a number document 01 is silent
+-- another form (`input_refusal` of the crate day); on this one with such a number document 01 is silent
 abbrev pub refused_line : ℕ → ℕ → Refusal → List ℕ
 refused_line t i r = line t i (refused_word (number_of r))
 

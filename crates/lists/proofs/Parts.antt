@@ -1,4 +1,4 @@
--- Laws of `up_to` and `splitOn`: what code that looks for the next c goes by. Assumes nothing.
+-- Laws of `up_to` and `split_on`: what code that looks for the next c goes by. Assumes nothing.
 use mathlib.Core.Bool.{Bool, true, false}
 use mathlib.Core.Path.{◌≡◌, refl, sym, ap, ◌∙◌}
 use mathlib.Core.List.{List, [], ◌∷◌}

@@ -15,12 +15,12 @@ use Rattle.periods.specs.Period.{least_period, greatest_period, shortest}
 abbrev pub is_bit : ℕ → Bool
 is_bit n = leb n 1
 
--- roles, 0 to 5: the number is `role_number` of the crate server, the role `roleOf` of the crate
+-- roles, 0 to 5: the number is `role_number` of the crate server, the role `role_of` of the crate
 -- places
 abbrev pub is_role : ℕ → Bool
 is_role n = leb n 5
 
--- verbs, 0 to 7: the number is `verbNumber` of the crate server
+-- verbs, 0 to 7: the number is `verb_number` of the crate server
 abbrev pub is_verb : ℕ → Bool
 is_verb n = leb n 7
 

@@ -27,7 +27,7 @@ use Rattle.playout.specs.declared.ChannelOpened.{ChannelOpened}
 use Rattle.playout.specs.declared.ChannelAnswered.{ChannelAnswered}
 use Rattle.playout.specs.Front.{ill, heard_numbers, timed_numbers, after_verb}
 
--- the front of its numbers, in the order of `frontNumbers` in the crate front
+-- the front of its numbers, in the order of `front_numbers` in the crate front
 abbrev pub of_numbers : List ℕ → PlainFront
 of_numbers l =
     record {

@@ -7,7 +7,7 @@ use Rattle.group.specs.Calls.{Call, channel_after}
 use Rattle.group.specs.Links.{cut_after}
 
 -- after any list of calls on a fresh channel, the link from place i to place j is whole if and only
--- if `cutAfter` does not say that it is cut
+-- if `cut_after` does not say that it is cut
 abbrev pub LinksAreAsCut : Type 0
 LinksAreAsCut =
     (n : ℕ) (t : Table) (ks : List Call) → fresh_refusal t n ≡ 0 → (i j : ℕ) → i < most → j < most →

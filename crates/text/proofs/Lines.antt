@@ -1,4 +1,4 @@
--- What an answer of `readLine` says. Assumes nothing.
+-- What an answer of `read_line` says. Assumes nothing.
 use mathlib.Core.Bool.{true, ◌&&◌}
 use mathlib.Core.Path.{◌≡◌, sym}
 use mathlib.Core.List.{List, [], ◌∷◌}

@@ -1,4 +1,4 @@
--- Laws of `readNumber`, a branch of the code each. Assumes nothing.
+-- Laws of `read_number`, a branch of the code each. Assumes nothing.
 use mathlib.Core.Bool.{Bool, true, false, ◌&&◌}
 use mathlib.Core.Path.{◌≡◌, refl, sym, ap, ◌∙◌}
 use mathlib.Core.List.{List, [], ◌∷◌}
