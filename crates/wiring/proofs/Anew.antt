@@ -43,7 +43,7 @@ use Rattle.wiring.specs.Group as wiring
 use Rattle.wiring.specs.Group.{new_group, turn, framed, lines_each, place_in, place_of, knows, own_number, state_number, entry_number, members_then, entry_lines, Move, frame, entry, move_number, moves_to, move_lines, moved, group_after, group_numbers, group_lines, WiredIn, Wired}
 use Rattle.wiring.specs.Anew as again
 use Rattle.wiring.specs.Anew.{new_for, renewed, Doing, moves, comes_up, move_of, done, done_after, done_numbers, done_lines, DoneWired, NewFrontsGoOn}
-use Rattle.wiring.proofs.Members.{sends-ranked}
+use Rattle.wiring.proofs.Members.{sends-ranked, heard-first}
 
 -- ---- one front
 
@@ -144,11 +144,13 @@ twin_begins : (m n : Member) → Twin m n → Twin (begins m) (begins n)
 twin_begins m n w = record { front = same-risen m.front n.front w.front; sent = refl }
 
 twin_frame : (m n : Member) (hs : List Heartbeat) → Twin m n → Twin (frame_of m hs) (frame_of n hs) × (frame_lines m hs ≡ frame_lines n hs)
-unfolding frame_of frame_lines
+unfolding frame_lines
 twin_frame m n hs w =
     let h = twin_hears (begins m) (begins n) hs (twin_begins m n w) in
     let t = twin_ticks (hears_each (begins m) hs) (hears_each (begins n) hs) h.0 in
-    (t.0, ap₂ (λ (x y : List ℕ). x ++ y) h.1 t.1)
+    let a = sym (heard-first m hs) in
+    let b = sym (heard-first n hs) in
+    (subst (λ (x : Member). Twin x (frame_of n hs)) a (subst (Twin (ticks (hears_each (begins m) hs))) b t.0), ap₂ (λ (x y : List ℕ). x ++ y) h.1 t.1)
 
 twin_acts : (v : Verb) (b : ℕ) (m n : Member) → Twin m n → Twin (acts v b m) (acts v b n) × (acts_lines v b m.front ≡ acts_lines v b n.front)
 unfolding acts acts_lines

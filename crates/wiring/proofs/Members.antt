@@ -124,6 +124,11 @@ module _ (t : ℕ) (p : Period) where
 
 -- ---- a frame
 
+-- first what is heard, then the timers
+pub heard-first : (m : Member) (hs : List Heartbeat) → frame_of m hs ≡ ticks (hears_each (begins m) hs)
+unfolding frame_of
+heard-first m hs = refl
+
 module _ (c : State) (sound : Sound c) (i : ℕ) (l : i < 16) (e : is_empty (place c i) ≡ false) where
   abbrev now : ℕ
   now = c.frame + 1
@@ -169,9 +174,10 @@ module _ (c : State) (sound : Sound c) (i : ℕ) (l : i < 16) (e : is_empty (pla
       ap (λ (r : Rank). r.identity) (rank-ticked c.period now (heard_all now (cleared s) (inbox c i)) ∙ rank-heard now (cleared s) (inbox c i))
 
   pub frame_is : frame_of (member_of c s) (inbox c i) ≡ member_of (advanced c) (turned c now i s)
-  unfolding frame_of turned hearing advanced
+  unfolding turned hearing advanced
   frame_is =
-      ap ticks after-hearing
+      heard-first (member_of c s) (inbox c i)
+      ∙ ap ticks after-hearing
       ∙ after-ticks (heard_all now (cleared s) (inbox c i)) ((in_order c sound).timers i l)
       ∙ sym (other nobody (ap (λ (n : ℕ). eqb n 0) same-identity ∙ e))
 
@@ -280,9 +286,9 @@ rests-lines f (h ∷ hs) a =
 
 -- whatever comes to it, its frame is the same
 pub frame-rests : (m : Member) (hs hs' : List Heartbeat) → Rests m.front → (frame_of m hs ≡ frame_of m hs') × (frame_lines m hs ≡ frame_lines m hs')
-unfolding frame_of frame_lines
+unfolding frame_lines
 frame-rests m hs hs' a =
     let each = rests-each (begins m) hs a ∙ sym (rests-each (begins m) hs' a) in (
-      ap ticks each,
+      heard-first m hs ∙ ap ticks each ∙ sym (heard-first m hs'),
       ap₂ (λ (x : List ℕ) (y : Member). x ++ ticks_lines y.front) (rests-lines (begins m).front hs a ∙ sym (rests-lines (begins m).front hs' a)) each,
     )
