@@ -14,7 +14,6 @@ use departure::Departure;
 use feed::Feed;
 use group::{Links, Table};
 use judge::Judge;
-use judging::Judgement;
 use places::Packed;
 use std::fs::File;
 use std::io::{Error, ErrorKind, Read};
@@ -245,7 +244,7 @@ impl Run {
         sheet_file: &mut Option<impl Read>,
         day: &mut [u8],
         sheet: &mut [u8],
-    ) -> Judgement
+    ) -> Option<Departure>
         requires { Holds day.old self.day × Holds sheet.old self.sheet }
     {
         let mut now = self;
@@ -307,10 +306,10 @@ fn answer(rt: &(impl Print + Eprint), departure: Departure) -> bool {
 }
 
 // Nothing is printed where nothing was decided: the reason was said. Whether an answer was written.
-fn tell(rt: &(impl Print + Eprint), judgement: Judgement) -> bool {
+fn tell(rt: &(impl Print + Eprint), judgement: Option<Departure>) -> bool {
     match judgement {
-        Judgement::Open => false,
-        Judgement::Decided(departure) => answer(rt, departure),
+        None => false,
+        Some(departure) => answer(rt, departure),
     }
 }
 

@@ -1,4 +1,5 @@
 -- Steps one after the other. Assumes nothing.
+use Rattle.std.specs.Prelude.{Result}
 use mathlib.Core.Path.{◌≡◌, refl, sym, ap, ap₂, subst, ◌∙◌}
 use mathlib.Core.List.{List}
 use Prim.Native.Nat.{ℕ, suc, ◌+◌, ◌≤◌, ◌<◌}
@@ -7,7 +8,6 @@ use lib.Dec.{eqb}
 use lib.ListN.{length, drop, get_or, drop_of_length-le}
 use lib.Seq.{drop-cons}
 use Rattle.lists.specs.Choice.{choose}
-use Rattle.refusal.specs.declared.Verdict.{Verdict}
 use Rattle.group.specs.declared.Table.{Table}
 use Rattle.group.specs.declared.State.{State}
 use Rattle.group.specs.Outcome.{Outcome, channel_in, slice_in}
@@ -17,9 +17,10 @@ use Rattle.channel.specs.Answers.{state}
 use Rattle.calls.specs.declared.Ended.{Ended}
 use Rattle.calls.specs.Running.{RunsList}
 use Rattle.bench.specs.Bench.{table_of, step_of, OneStep, state_after, slice_after, DayRuns, opened, DayEnds, CallsEnd}
+use Rattle.refusal.specs.declared.Refusal.{Refusal}
 
 -- the answer to one step
-pub one-step : {c : State} {n : ℕ} {d : List ℕ} {o : Outcome} {v : Verdict} {m : ℕ} {x : State} {d' : List ℕ} → step_of c n (length d) ≡ o → Gives c o d v m x d' → OneStep c n d x d'
+pub one-step : {c : State} {n : ℕ} {d : List ℕ} {o : Outcome} {v : Result (Unit {0}) Refusal} {m : ℕ} {x : State} {d' : List ℕ} → step_of c n (length d) ≡ o → Gives c o d v m x d' → OneStep c n d x d'
 one-step {c} {n} {d} e g =
     record {
       state = g.channel ∙ ap (λ (y : Outcome). channel_in c y (length d)) (sym e);

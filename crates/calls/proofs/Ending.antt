@@ -1,4 +1,5 @@
 -- How a list of calls ends. Assumes nothing.
+use Rattle.std.specs.Prelude.{Ok}
 use mathlib.Core.Bool.{true, false}
 use mathlib.Core.Path.{◌≡◌, sym, ap, subst, ◌∙◌}
 use mathlib.Core.List.{List}
@@ -11,7 +12,6 @@ use Rattle.lists.specs.Choice.{choose}
 use Rattle.lists.proofs.Cases.{chosen, other, same_choice}
 use Rattle.refusal.specs.declared.Refusal.{Refusal}
 use Rattle.refusal.specs.declared.Refusal.TheVariants.{Short}
-use Rattle.refusal.specs.declared.Verdict.TheVariants.{Accepted}
 use Rattle.refusal.specs.Answer.{number_of, of_verdict}
 use Rattle.refusal.proofs.Answers.{number-some}
 use Rattle.group.specs.declared.Table.{Table}
@@ -20,8 +20,6 @@ use Rattle.channel.specs.declared.Channel.{Channel}
 use Rattle.channel.specs.Answers.{state}
 use Rattle.group.specs.Table.{empty, fresh_refusal, fresh}
 use Rattle.group.specs.Answers.{no_channel}
-use Rattle.group.specs.Calls.{channel_after}
-use Rattle.group.specs.Links.{NoLinkCut}
 use Rattle.settling.specs.Demand.{InThoseRoles, settling_time, Settles}
 use Rattle.settling.proofs.Demand.{settles}
 use Rattle.calls.specs.declared.Ended.{Ended}
@@ -66,7 +64,7 @@ module _ (t : Table) (n : ℕ) (ks d e : List ℕ) where
   -- all calls made: demand 3 holds of the channel
   pub ends :
       {c : State} (x : Channel) {d' e' : List ℕ} → fresh_refusal t n ≡ 0 → length ks / 2 ≤ length e → c ≡ fresh t n → ListRuns c ks d e (state x) d' e' →
-      RunsList t n ks d e (record { verdict = Accepted; channel = x }) d' e'
+      RunsList t n ks d e (record { verdict = (Ok tt); channel = x }) d' e'
   unfolding list_refusal
   ends {c} x {d'} {e'} q h same v =
       let w : ListRuns (fresh t n) ks d e (state x) d' e' = subst (λ (y : State). ListRuns y ks d e (state x) d' e') same v in

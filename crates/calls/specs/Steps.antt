@@ -1,10 +1,9 @@
 -- What private functions answer. Nothing is promised here.
-use Rattle.std.specs.Prelude.{List, ◌++◌, ◌≡◌, ℕ, length, take, drop}
+use Rattle.std.specs.Prelude.{List, ◌++◌, ◌≡◌, ℕ, length, take, drop, Err}
 use Rattle.lists.specs.Splice.{splice}
 use Rattle.refusal.specs.Answer.{of_verdict}
 use Rattle.group.specs.declared.State.{State}
 use Rattle.refusal.specs.declared.Refusal.{Refusal}
-use Rattle.refusal.specs.declared.Verdict.TheVariants.{Refused}
 use Rattle.group.specs.Answers.{no_channel}
 use Rattle.channel.specs.declared.Answer.{Answer}
 use Rattle.channel.specs.Answers.{state}
@@ -21,7 +20,7 @@ pub record OneCall (c : State) (k m : ℕ) (d : List ℕ) (r : Answer) (d' : Lis
 
 -- no call is made, and the list gets k
 pub record Unopened (k : Refusal) (r : Ended) : Type 0 where
-  pub verdict : r.verdict ≡ Refused k
+  pub verdict : r.verdict ≡ Err k
   pub channel : state r.channel ≡ no_channel
 
 -- all the calls

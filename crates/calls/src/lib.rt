@@ -11,13 +11,13 @@ ghost use Rattle.calls.specs.Steps.{OneCall, ListRuns, Unopened};
 
 use channel::{Answer, Channel};
 use group::Table;
-use refusal::{Refusal, Verdict};
+use refusal::Refusal;
 use roles::Verb;
 
 // The channel after the last call; where the list is refused, one with no server.
 #[derive(Clone, Copy)]
 pub struct Ended {
-    pub verdict: Verdict,
+    pub verdict: Result<(), Refusal>,
     pub channel: Channel,
 }
 
@@ -75,12 +75,12 @@ fn lend(channel: Channel, n: u64, m: u64, out: &mut [u8]) -> Answer
     call(channel, n, &mut out[..end])
 }
 
-fn number(verdict: Verdict) -> u8
+fn number(verdict: Result<(), Refusal>) -> u8
     ensures { result ≡ of_verdict verdict }
 {
     match verdict {
-        Verdict::Accepted => 0,
-        Verdict::Refused(k) => k.number(),
+        Ok(()) => 0,
+        Err(k) => k.number(),
     }
 }
 
@@ -90,16 +90,12 @@ fn run(channel: Channel, calls: &[u64], out: &mut [u8], numbers: &mut [u8]) -> C
     ensures { ListRuns (state channel) calls.now out.old numbers.old (state result) out.new numbers.new }
 {
     let mut now = channel;
-    let mut i: usize = 0;
-    let mut k: usize = 0;
-    while k < calls.len() / 2 {
-        let answer = lend(now, calls[i], calls[i + 1], out);
+    for k in 0..calls.len() / 2 {
+        let answer = lend(now, calls[2 * k], calls[2 * k + 1], out);
         let next = answer.channel;
         let verdict = answer.verdict;
         numbers[k] = number(verdict);
         now = next;
-        i += 2;
-        k += 1;
     }
     now
 }
@@ -110,7 +106,7 @@ fn refused(k: Refusal) -> Ended
     let opened = Channel::fresh(Table::empty(), 2);
     let channel = opened.channel;
     Ended {
-        verdict: Verdict::Refused(k),
+        verdict: Err(k),
         channel,
     }
 }
@@ -130,7 +126,7 @@ pub fn run_list(
     let opened = Channel::fresh(table, period);
     let verdict = opened.verdict;
     let fresh = opened.channel;
-    if let Verdict::Refused(k) = verdict {
+    if let Err(k) = verdict {
         return refused(k);
     }
     if calls.len() / 2 > numbers.len() {
@@ -138,7 +134,7 @@ pub fn run_list(
     }
     let channel = run(fresh, calls, out, numbers);
     Ended {
-        verdict: Verdict::Accepted,
+        verdict: Ok(()),
         channel,
     }
 }

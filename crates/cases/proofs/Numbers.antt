@@ -1,4 +1,5 @@
 -- Numbers of a line. Assumes nothing.
+use Rattle.std.specs.Prelude.{Result, Ok, Err}
 use mathlib.Core.Bool.{Bool, true, false, ◌&&◌}
 use mathlib.Core.Path.{◌≡◌, refl, sym, ap, ◌∙◌}
 use mathlib.Core.List.{List}
@@ -8,8 +9,6 @@ use borrow.Author.Tests.{ne_eqb}
 use Rattle.refusal.specs.declared.Refusal.{Refusal}
 use Rattle.refusal.specs.Answer.{number_of}
 use Rattle.refusal.proofs.Answers.{number-some}
-use Rattle.text.specs.declared.NumberAnswer.{NumberAnswer}
-use Rattle.text.specs.declared.NumberAnswer.TheVariants.{Is, Refused}
 use Rattle.text.specs.Number.{of_number, read_number}
 use Rattle.text.specs.Line.{field, after_field}
 use Rattle.text.proofs.Reading.{number-within}
@@ -17,11 +16,11 @@ use Rattle.cases.specs.declared.Arg.{Arg}
 use Rattle.cases.specs.declared.Args.{Args}
 use Rattle.cases.specs.Cases.{of_answer, arg_in, args_in}
 
-module _ (greatest : ℕ) (s : List ℕ) {a : NumberAnswer} (e : of_number a ≡ read_number 0 greatest s) where
-  pub arg_is : (n : ℕ) → a ≡ Is n → (record { n = n; good = true } ≡ arg_in greatest s) × (n ≤ greatest)
+module _ (greatest : ℕ) (s : List ℕ) {a : Result ℕ Refusal} (e : of_number a ≡ read_number 0 greatest s) where
+  pub arg_is : (n : ℕ) → a ≡ Ok n → (record { n = n; good = true } ≡ arg_in greatest s) × (n ≤ greatest)
   arg_is n q = (ap of_answer (sym (ap of_number q) ∙ e), (number-within _ _ _ _ (sym (ap of_number q) ∙ e)).1)
 
-  pub arg_not : (k : Refusal) → a ≡ Refused k → (record { n = 0; good = false } ≡ arg_in greatest s) × (0 ≤ greatest)
+  pub arg_not : (k : Refusal) → a ≡ Err k → (record { n = 0; good = false } ≡ arg_in greatest s) × (0 ≤ greatest)
   arg_not k q =
       (ap (λ (t : Bool). record { n = 0; good = t }) (sym (ne_eqb (number_of k) 0 (λ z. omega (arith, number-some k)))) ∙ ap of_answer (sym (ap of_number q) ∙ e), omega arith)
 

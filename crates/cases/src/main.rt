@@ -24,12 +24,11 @@ ghost use Rattle.cases.specs.Cases.{arg_in, args_in, fillers, Shows, two, table_
 
 use channel::{Answer, Channel};
 use group::{Servers, Table};
-use refusal::{Refusal, Verdict};
+use refusal::Refusal;
 use roles::{Role, Verb};
 use server::Server;
 use std::io::Read;
 use std::{fs, io};
-use text::{NumberAnswer, Written};
 
 // ---- the numbers of a line
 
@@ -56,8 +55,8 @@ impl Arg {
         ensures n_le_greatest { result.n ≤ greatest }
     {
         match text::read_number(field, 0, greatest) {
-            NumberAnswer::Is(n) => Arg { n, good: true },
-            NumberAnswer::Refused(_) => Arg { n: 0, good: false },
+            Ok(n) => Arg { n, good: true },
+            Err(_) => Arg { n: 0, good: false },
         }
     }
 }
@@ -204,42 +203,48 @@ fn roles_of(servers: Servers) -> Roles
 
 // ---- answers
 
-fn number(verdict: Verdict) -> u8
+fn number(verdict: Result<(), Refusal>) -> u8
     ensures { result ≡ of_verdict verdict }
 {
     match verdict {
-        Verdict::Accepted => 0,
-        Verdict::Refused(k) => k.number(),
+        Ok(()) => 0,
+        Err(k) => k.number(),
     }
 }
 
 // Two numbers, parted by a tab.
-fn put_two(out: &mut [u8], m: u64, n: u64) -> Written
+fn put_two(out: &mut [u8], m: u64, n: u64) -> Result<usize, Refusal>
     ensures { Pieces out.old 0 (two m n) result out.new }
 {
-    let a = text::write_number(out, 0, m);
-    let b = a.then_bytes(out, b"\t");
-    b.then_number(out, n)
+    let first = text::write_number(out, 0, m)?;
+    let tab = text::write_bytes(out, first, b"\t")?;
+    text::write_number(out, tab, n)
 }
 
-fn put_table(out: &mut [u8], number: u8, servers: Servers) -> Written
+fn put_table(out: &mut [u8], number: u8, servers: Servers) -> Result<usize, Refusal>
     ensures { Pieces out.old 0 (table_line number servers) result out.new }
 {
     let roles = roles_of(servers);
-    let a = put_two(out, number as u64, roles.count as u64);
-    a.then_bytes(out, b"\n")
+    let two = put_two(out, number as u64, roles.count as u64)?;
+    text::write_bytes(out, two, b"\n")
 }
 
 // Four numbers, each with a tab after it.
-fn put_counts(out: &mut [u8], number: u8, written: usize, kept: usize, frame: u32) -> Written
+fn put_counts(
+    out: &mut [u8],
+    number: u8,
+    written: usize,
+    kept: usize,
+    frame: u32,
+) -> Result<usize, Refusal>
     ensures { Pieces out.old 0 (counts number written kept frame) result out.new }
 {
-    let a = put_two(out, number as u64, written as u64);
-    let b = a.then_bytes(out, b"\t");
-    let c = b.then_number(out, kept as u64);
-    let d = c.then_bytes(out, b"\t");
-    let e = d.then_number(out, frame as u64);
-    e.then_bytes(out, b"\t")
+    let two = put_two(out, number as u64, written as u64)?;
+    let tab = text::write_bytes(out, two, b"\t")?;
+    let kept = text::write_number(out, tab, kept as u64)?;
+    let tab2 = text::write_bytes(out, kept, b"\t")?;
+    let frame = text::write_number(out, tab2, frame as u64)?;
+    text::write_bytes(out, frame, b"\t")
 }
 
 // The line of a call, without what the call wrote.
@@ -250,22 +255,22 @@ fn put_call(
     kept: usize,
     frame: u32,
     servers: Servers,
-) -> Written
+) -> Result<usize, Refusal>
     ensures { Pieces out.old 0 (call_line number written kept frame servers) result out.new }
 {
     let roles = roles_of(servers);
     let digits = roles.digits;
     let end = roles.count;
-    let a = put_counts(out, number, written, kept, frame);
-    let b = a.then_bytes(out, &digits[..end]);
-    b.then_bytes(out, b"\n")
+    let counts = put_counts(out, number, written, kept, frame)?;
+    let roles = text::write_bytes(out, counts, &digits[..end])?;
+    text::write_bytes(out, roles, b"\n")
 }
 
 // Where an answer ends; beyond any buffer if it did not fit.
-fn end(written: Written) -> usize {
+fn end(written: Result<usize, Refusal>) -> usize {
     match written {
-        Written::To(n) => n,
-        Written::Refused(_) => usize::MAX,
+        Ok(n) => n,
+        Err(_) => usize::MAX,
     }
 }
 
@@ -278,7 +283,7 @@ fn print(rt: &impl Print, out: &[u8], n: usize) -> io::Result<()> {
     }
 }
 
-fn say_table(rt: &impl Print, verdict: Verdict, servers: Servers) -> io::Result<()> {
+fn say_table(rt: &impl Print, verdict: Result<(), Refusal>, servers: Servers) -> io::Result<()> {
     let mut out = [0u8; 64];
     let line = put_table(&mut out, number(verdict), servers);
     print(rt, &out, end(line))
@@ -286,7 +291,7 @@ fn say_table(rt: &impl Print, verdict: Verdict, servers: Servers) -> io::Result<
 
 fn say_call(
     rt: &impl Print,
-    verdict: Verdict,
+    verdict: Result<(), Refusal>,
     written: usize,
     channel: Channel,
     lent: &[u8],
@@ -340,13 +345,13 @@ fn act_any(channel: Channel, verb: Verb, a: u16, b: u16, lent: &mut [u8]) -> Ans
 
 fn write_line(channel: Channel, identity: u16, refusal: Refusal, lent: &mut [u8]) -> Answer {
     match channel.write_refused(identity, refusal, lent) {
-        Written::To(n) => Answer {
-            verdict: Verdict::Accepted,
+        Ok(n) => Answer {
+            verdict: Ok(()),
             written: n,
             channel,
         },
-        Written::Refused(k) => Answer {
-            verdict: Verdict::Refused(k),
+        Err(k) => Answer {
+            verdict: Err(k),
             written: 0,
             channel,
         },
@@ -459,8 +464,8 @@ impl State {
         let channel = opened.channel;
         say_table(rt, verdict, servers)?;
         match verdict {
-            Verdict::Accepted => Ok(self.with_channel(channel)),
-            Verdict::Refused(_) => Ok(self),
+            Ok(()) => Ok(self.with_channel(channel)),
+            Err(_) => Ok(self),
         }
     }
 

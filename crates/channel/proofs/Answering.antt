@@ -1,4 +1,5 @@
 -- What calls answer. Assumes nothing.
+use Rattle.std.specs.Prelude.{Result, Ok, Err}
 use mathlib.Core.Bool.{Bool, true, false, ◌&&◌}
 use mathlib.Core.Path.{◌≡◌, refl, sym, ap, subst, ◌∙◌}
 use mathlib.Core.List.{List}
@@ -12,8 +13,6 @@ use Rattle.lists.proofs.Cases.{tested, on, chosen, other, not_so, not_some}
 use Rattle.lists.proofs.Splicing.{splice-none}
 use Rattle.refusal.specs.declared.Refusal.{Refusal}
 use Rattle.refusal.specs.declared.Refusal.TheVariants.{Short}
-use Rattle.refusal.specs.declared.Verdict.{Verdict}
-use Rattle.refusal.specs.declared.Verdict.TheVariants.{Accepted, Refused}
 use Rattle.refusal.specs.Answer.{of_verdict, number_of}
 use Rattle.refusal.proofs.Answers.{number-some}
 use Rattle.server.specs.declared.Server.{Server}
@@ -34,7 +33,7 @@ use Rattle.channel.specs.Answers.{state, Answers, AnswersWithin}
 use Rattle.channel.specs.Steps.{next_frame, Quiet}
 
 -- "the same channel": where a call is refused, the state is the one that there was
-module _ {c : State} {o : Outcome} {d : List ℕ} {v : Verdict} {n : ℕ} {x : State} {d' : List ℕ} (g : Gives c o d v n x d') (k : Refusal) (e : v ≡ Refused k) where
+module _ {c : State} {o : Outcome} {d : List ℕ} {v : Result (Unit {0}) Refusal} {n : ℕ} {x : State} {d' : List ℕ} (g : Gives c o d v n x d') (k : Refusal) (e : v ≡ Err k) where
   some_number : eqb (number_in o (length d)) 0 ≡ false
   some_number = ne_eqb (number_in o (length d)) 0 (λ z. omega (arith, g.number, ap of_verdict e, number-some k))
 
@@ -49,8 +48,8 @@ module _ {c : State} {o : Outcome} {d : List ℕ} {v : Verdict} {n : ℕ} {x : S
   unfolding written_in
   gives_none = g.written ∙ other _ some_number
 
-  pub gives_nothing : Gives c o d (Refused k) 0 c d'
-  gives_nothing = subst (λ (y : Verdict). Gives c o d y 0 c d') e (subst (λ (m : ℕ). Gives c o d v m c d') gives_none gives-kept)
+  pub gives_nothing : Gives c o d (Err k) 0 c d'
+  gives_nothing = subst (λ (y : Result (Unit {0}) Refusal). Gives c o d y 0 c d') e (subst (λ (m : ℕ). Gives c o d v m c d') gives_none gives-kept)
 
 -- so is the channel
 same-channel : {c x : Channel} → state x ≡ state c → x ≡ c
@@ -64,7 +63,7 @@ answers_as e f h v = record { gives = gives_as e f h v.gives; same = v.same }
 
 -- a call that gets a number by itself
 pub answers-refused :
-    (c : Channel) (o : Outcome) (d : List ℕ) {k : Refusal} {r : Answer} → r ≡ record { verdict = Refused k; written = 0; channel = c } → o.number ≡ number_of k → Answers c o d r d
+    (c : Channel) (o : Outcome) (d : List ℕ) {k : Refusal} {r : Answer} → r ≡ record { verdict = Err k; written = 0; channel = c } → o.number ≡ number_of k → Answers c o d r d
 answers-refused c o d {k} {r} q e = rw q (answers _ (gives-refused (state c) o d k e))
 
 -- what is answered of the servers of numbers w is so of the channel whose servers they are
@@ -73,7 +72,7 @@ module _ (c : State) (w : List ℕ) (same : servers_of w ≡ c.servers) where
   of_words l = state_of c.frame c.period l c.whole
 
   pub gives_of :
-      (f : State → Outcome) {d : List ℕ} {v : Verdict} {n : ℕ} {x : State} {d' : List ℕ} → Gives (of_words (servers_of w)) (f (of_words (servers_of w))) d v n x d' → Gives c (f c) d v n x d'
+      (f : State → Outcome) {d : List ℕ} {v : Result (Unit {0}) Refusal} {n : ℕ} {x : State} {d' : List ℕ} → Gives (of_words (servers_of w)) (f (of_words (servers_of w))) d v n x d' → Gives c (f c) d v n x d'
   gives_of f {d} {v} {n} {x} {d'} g = subst (λ (l : List Server). Gives (of_words l) (f (of_words l)) d v n x d') same g
 
   pub plays-of : {d : List ℕ} {r : Fared} {w' d' : List ℕ} → Plays (of_words (servers_of w)) w d 0 r w' d' → Plays c w d 0 r w' d'
@@ -82,7 +81,7 @@ module _ (c : State) (w : List ℕ) (same : servers_of w ≡ c.servers) where
 -- ---- one frame
 
 -- nothing happens
-pub next-quiet : (c : Channel) (d : List ℕ) {r : Answer} → Quiet (state c) → r ≡ record { verdict = Accepted; written = 0; channel = record { state = moved_to (state c) ((state c).frame + 1) (state c).servers } } →
+pub next-quiet : (c : Channel) (d : List ℕ) {r : Answer} → Quiet (state c) → r ≡ record { verdict = (Ok tt); written = 0; channel = record { state = moved_to (state c) ((state c).frame + 1) (state c).servers } } →
     Answers c (next_frame (state c)) d r d
 next-quiet c d q e =
     let none : length (frame_lines (state c)) ≡ 0 = ap length q.silent in
@@ -95,14 +94,14 @@ module _ (c : State) {w d : List ℕ} {r : Fared} {w' d' : List ℕ} (next : c.f
   fits-is = ap (λ (b : Bool). b && leb (0 + length (frame_lines c)) (length d)) (lt-ltb c.frame 4294967295 next)
 
   -- its lines do not fit
-  pub next-short : r.full ≡ true → Gives c (next_frame c) d (Refused Short) 0 c d'
+  pub next-short : r.full ≡ true → Gives c (next_frame c) d (Err Short) 0 c d'
   next-short f =
       let fit : frame_fits c d 0 ≡ false = not_so _ (sym v.full ∙ f) in
       let short = leb-false (0 + length (frame_lines c)) (length d) (sym fits-is ∙ fit) in
       let kept : d' ≡ d = v.slice ∙ other _ fit in
       rw kept (gives-not c (next_frame c) d Short (is-short (next_frame c) (length d) refl (omega arith)))
 
-  pub next-played : r.full ≡ false → {l : List Server} → l ≡ servers_of w' → Gives c (next_frame c) d Accepted r.at (moved_to c (c.frame + 1) l) d'
+  pub next-played : r.full ≡ false → {l : List Server} → l ≡ servers_of w' → Gives c (next_frame c) d (Ok tt) r.at (moved_to c (c.frame + 1) l) d'
   unfolding advanced
   next-played f e =
       let fit : frame_fits c d 0 ≡ true = not_some _ (sym v.full ∙ f) in
@@ -113,7 +112,7 @@ module _ (c : State) {w d : List ℕ} {r : Fared} {w' d' : List ℕ} (next : c.f
 
 -- ---- the advance within a slice
 
-module _ (c : State) (t : ℕ) {d : List ℕ} {v : Verdict} {n : ℕ} {x : State} {d' : List ℕ} where
+module _ (c : State) (t : ℕ) {d : List ℕ} {v : Result (Unit {0}) Refusal} {n : ℕ} {x : State} {d' : List ℕ} where
   -- it goes back to no earlier frame
   pub within-later : Gives c (within_goes c t (length d)) d v n x d' → c.frame ≤ x.frame
   unfolding channel_in
@@ -130,12 +129,12 @@ answers-within r g f = record { gives = g; frames = f; same = λ k e. same-chann
 
 -- no frame is made, and the channel stays
 pub stays :
-    (c : Channel) {o : Outcome} {d : List ℕ} {k : Refusal} {r : Within} {d' : List ℕ} → r ≡ record { verdict = Refused k; written = 0; frames = 0; channel = c } →
-    Gives (state c) o d (Refused k) 0 (state c) d' → AnswersWithin c o d r d'
+    (c : Channel) {o : Outcome} {d : List ℕ} {k : Refusal} {r : Within} {d' : List ℕ} → r ≡ record { verdict = Err k; written = 0; frames = 0; channel = c } →
+    Gives (state c) o d (Err k) 0 (state c) d' → AnswersWithin c o d r d'
 stays c q g = rw q (answers-within _ g (let z : 0 ≡ (state c).frame - (state c).frame = omega arith in z))
 
 pub stays-refused :
-    (c : Channel) (t : ℕ) (d : List ℕ) {k : Refusal} {r : Within} → r ≡ record { verdict = Refused k; written = 0; frames = 0; channel = c } → time_refusal (state c) t ≡ number_of k →
+    (c : Channel) (t : ℕ) (d : List ℕ) {k : Refusal} {r : Within} → r ≡ record { verdict = Err k; written = 0; frames = 0; channel = c } → time_refusal (state c) t ≡ number_of k →
     AnswersWithin c (within_outcome (state c) t (length d)) d r d
 stays-refused c t d {k} {r} q e =
     let some : eqb (time_refusal (state c) t) 0 ≡ false = ne_eqb (time_refusal (state c) t) 0 (λ z. omega (arith, e, number-some k)) in

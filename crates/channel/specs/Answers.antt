@@ -1,9 +1,8 @@
 -- What the calls of a channel answer: what is said of its state, over the struct that has the
 -- calls.
-use Rattle.std.specs.Prelude.{◌≡◌, List, ℕ, ◌-◌, eqb}
+use Rattle.std.specs.Prelude.{◌≡◌, List, ℕ, ◌-◌, eqb, Err}
 use Rattle.lists.specs.Choice.{choose}
 use Rattle.refusal.specs.declared.Refusal.{Refusal}
-use Rattle.refusal.specs.declared.Verdict.TheVariants.{Refused}
 use Rattle.refusal.specs.Answer.{of_verdict}
 use Rattle.group.specs.declared.State.{State}
 use Rattle.group.specs.declared.Table.{Table}
@@ -30,10 +29,10 @@ pub record Opens (t : Table) (n : ℕ) (r : Opened) : Type 0 where
 pub record Answers (c : Channel) (o : Outcome) (d : List ℕ) (r : Answer) (d' : List ℕ) : Type 0 where
   pub gives : Gives (state c) o d r.verdict r.written (state r.channel) d'
   -- "Any of them returns its number and the same channel"
-  pub same : (k : Refusal) → r.verdict ≡ Refused k → r.channel ≡ c
+  pub same : (k : Refusal) → r.verdict ≡ Err k → r.channel ≡ c
 
 -- the advance within a slice: its answer, and how many frames it made
 pub record AnswersWithin (c : Channel) (o : Outcome) (d : List ℕ) (r : Within) (d' : List ℕ) : Type 0 where
   pub gives : Gives (state c) o d r.verdict r.written (state r.channel) d'
   pub frames : r.frames ≡ (state r.channel).frame - (state c).frame
-  pub same : (n : Refusal) → r.verdict ≡ Refused n → r.channel ≡ c
+  pub same : (n : Refusal) → r.verdict ≡ Err n → r.channel ≡ c

@@ -16,10 +16,9 @@ ghost use Rattle.channel.specs.Steps.{next_frame, Quiet};
 use group::{Links, Servers, State, Table};
 use periods::Period;
 use places::Packed;
-use refusal::{Refusal, Verdict};
+use refusal::Refusal;
 use roles::Verb;
 use server::Server;
-use text::Written;
 use timecode::Timecode;
 
 // A channel in a frame, with the calls on it.
@@ -31,14 +30,14 @@ pub struct Channel {
 // A fresh channel; where it is refused, one with no server.
 #[derive(Clone, Copy)]
 pub struct Opened {
-    pub verdict: Verdict,
+    pub verdict: Result<(), Refusal>,
     pub channel: Channel,
 }
 
 // What a call answers: where it is refused, nothing written and the same channel.
 #[derive(Clone, Copy)]
 pub struct Answer {
-    pub verdict: Verdict,
+    pub verdict: Result<(), Refusal>,
     pub written: usize,
     pub channel: Channel,
 }
@@ -46,7 +45,7 @@ pub struct Answer {
 // What the advance within a slice answers: an answer, and how many frames it made.
 #[derive(Clone, Copy)]
 pub struct Within {
-    pub verdict: Verdict,
+    pub verdict: Result<(), Refusal>,
     pub written: usize,
     pub frames: u32,
     pub channel: Channel,
@@ -100,10 +99,10 @@ impl Channel {
     }
 
     fn refused(self, k: Refusal) -> Answer
-        ensures { result ≡ record { verdict = Verdict.Refused k; written = 0; channel = self } }
+        ensures { result ≡ record { verdict = Err k; written = 0; channel = self } }
     {
         Answer {
-            verdict: Verdict::Refused(k),
+            verdict: Err(k),
             written: 0,
             channel: self,
         }
@@ -125,27 +124,19 @@ fn quiet(state: State, next: u32) -> bool
     ensures { result ≡ Bool.true → Quiet state }
 {
     let period = state.period;
-    let mut i: usize = 0;
-    while i < Table::SERVERS {
-        let s = state.servers[i];
-        if stirs(s, period, next) {
-            return false;
-        }
-        i += 1;
-    }
-    true
+    !state.servers.iter().any(|s| stirs(*s, period, next))
 }
 
 impl Channel {
     // The next frame, in which nothing happens.
     fn idle(self) -> Answer
         requires { ((state self).frame < last_frame) × Quiet (state self) }
-        ensures { result ≡ record { verdict = Verdict.Accepted; written = 0; channel = record { state = moved_to (state self) ((state self).frame + 1) (state self).servers } } }
+        ensures { result ≡ record { verdict = Ok tt; written = 0; channel = record { state = moved_to (state self) ((state self).frame + 1) (state self).servers } } }
     {
         let mut state = self.state;
         state.frame += 1;
         Answer {
-            verdict: Verdict::Accepted,
+            verdict: Ok(()),
             written: 0,
             channel: Channel { state },
         }
@@ -168,7 +159,7 @@ impl Channel {
         let after = places::servers_of(&words);
         let channel = self.moved(state.frame + 1, after);
         Answer {
-            verdict: Verdict::Accepted,
+            verdict: Ok(()),
             written: fared.at,
             channel,
         }
@@ -213,7 +204,7 @@ impl Channel {
         let ran = frames::run(words, &whole, period, state.frame, target, out);
         let verdict = ran.verdict;
         match verdict {
-            Verdict::Accepted => {
+            Ok(()) => {
                 let next = ran.words;
                 let after = places::servers_of(&next);
                 let channel = self.moved(ran.frame, after);
@@ -223,7 +214,7 @@ impl Channel {
                     channel,
                 }
             }
-            Verdict::Refused(_) => Answer {
+            Err(_) => Answer {
                 verdict,
                 written: ran.written,
                 channel: self,
@@ -245,10 +236,10 @@ impl Channel {
     }
 
     fn stays(self, k: Refusal) -> Within
-        ensures { result ≡ record { verdict = Verdict.Refused k; written = 0; frames = 0; channel = self } }
+        ensures { result ≡ record { verdict = Err k; written = 0; frames = 0; channel = self } }
     {
         Within {
-            verdict: Verdict::Refused(k),
+            verdict: Err(k),
             written: 0,
             frames: 0,
             channel: self,
@@ -267,7 +258,7 @@ impl Channel {
         let ran = frames::run_within(&mut words, &whole, period, state.frame, target, out);
         let verdict = ran.verdict;
         match verdict {
-            Verdict::Accepted => {
+            Ok(()) => {
                 let after = places::servers_of(&words);
                 let channel = self.moved(ran.frame, after);
                 Within {
@@ -277,7 +268,7 @@ impl Channel {
                     channel,
                 }
             }
-            Verdict::Refused(k) => self.stays(k),
+            Err(k) => self.stays(k),
         }
     }
 
@@ -373,7 +364,12 @@ impl Channel {
     }
 
     // The sheet's line of a call that was refused, at the present time; 9.
-    pub fn write_refused(self, identity: u16, refusal: Refusal, out: &mut [u8]) -> Written
+    pub fn write_refused(
+        self,
+        identity: u16,
+        refusal: Refusal,
+        out: &mut [u8],
+    ) -> Result<usize, Refusal>
         ensures { Writes out.old 0 (refused_line (state self).frame identity refusal) result out.new }
     {
         lines::write_refused(out, self.state.frame, identity, refusal)

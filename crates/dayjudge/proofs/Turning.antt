@@ -1,28 +1,26 @@
 -- The loop over a whole day and a whole sheet: what holds before each turn, and that each makes
 -- less to come. Assumes nothing.
-use mathlib.Core.Bool.{Bool, true, false, not}
+use Rattle.std.specs.Prelude.{Option, None, Some}
+use mathlib.Core.Bool.{Bool, true, false}
 use mathlib.Core.Path.{◌≡◌, refl, sym, ap, ap₂, subst, ◌∙◌}
-use mathlib.Core.List.{List, [], ◌∷◌, ◌++◌, append-nil}
+use mathlib.Core.List.{List, [], append-nil}
 use mathlib.Core.Logic.{inr}
-use Prim.Native.Nat.{ℕ, suc, ◌+◌, ◌-◌, ◌≤◌, ◌<◌}
+use Prim.Native.Nat.{ℕ, ◌+◌, ◌-◌, ◌≤◌, ◌<◌}
 use native.Mathlib.Omega.{arith}
 use lib.ListN.{length, take, drop, length-drop}
 use lib.Seq.{drop-drop}
-use Rattle.lists.proofs.Cases.{tested, on, clash, not_so, not_some}
+use Rattle.lists.proofs.Cases.{tested, on, clash}
 use Rattle.lists.proofs.Parts.{part-rest}
 use Rattle.departure.specs.declared.Departure.{Departure}
 use Rattle.departure.specs.Departure.{judged}
-use Rattle.feeding.specs.Bound.{step_bytes}
-use Rattle.judging.specs.declared.Judgement.{Judgement}
-use Rattle.judging.specs.declared.Judgement.TheVariants.{Open, Decided}
 use Rattle.judge.specs.declared.Judge.{Judge}
 use Rattle.dayjudge.specs.declared.Turned.{Turned}
-use Rattle.judging.specs.Judging.{Judging, beginning, is_decided, asks, Taking, day_taking, sheet_taking}
+use Rattle.judging.specs.Judging.{Judging, is_decided, asks}
 use Rattle.judge.specs.declared.Given.{Given}
 use Rattle.judge.specs.Answers.{judging_of, Begins, DayGiven, SheetGiven}
 use Rattle.dayjudge.specs.Steps.{found_in, Turns}
 use Rattle.judging.specs.Laws.{Reached, EveryWayJudges}
-use Rattle.judging.proofs.Standing.{Standing, Status, settled, standing}
+use Rattle.judging.proofs.Standing.{Status, settled, standing}
 use Rattle.judging.proofs.Laws.{laws, reached-status, to_come, day-fewer, sheet-fewer, some_to_come, day-few, sheet-few}
 
 -- after the first i bytes of the day and the first j of the sheet
@@ -133,13 +131,13 @@ module _ (s g : List ℕ) (x : Judge) (l w : List ℕ) (k : List Bool) (d : List
 
 -- decided, it is the definition's answer, by what the first call promises
 pub rests-end :
-    {s g : List ℕ} {x : Judging} {i j : ℕ} {v : Judgement} {d : Departure} →
+    {s g : List ℕ} {x : Judging} {i j : ℕ} {v : Option Departure} {d : Departure} →
     EveryWayJudges → Rests s g x i j → is_decided x.judgement ≡ true → v ≡ x.judgement → d ≡ found_in v → d ≡ judged s g
 rests-end {s} {g} {x} {i} {j} {v} {d} judges r o ev ed = by x.judgement refl
   where
-    by : (w : Judgement) → x.judgement ≡ w → d ≡ judged s g
-    by Open e = absurd (clash o (ap is_decided e))
-    by (Decided d') e = ed ∙ ap found_in (ev ∙ e) ∙ judges s g (drop i s) (drop j g) x r.reached d' e
+    by : (w : Option Departure) → x.judgement ≡ w → d ≡ judged s g
+    by None e = absurd (clash o (ap is_decided e))
+    by (Some d') e = ed ∙ ap found_in (ev ∙ e) ∙ judges s g (drop i s) (drop j g) x r.reached d' e
 
 -- what a turn answers
 

@@ -1,18 +1,16 @@
 -- What private functions answer. Nothing is promised here.
-use Rattle.std.specs.Prelude.{Bool, true, false, ◌≡◌, List, ℕ}
+use Rattle.std.specs.Prelude.{Bool, true, false, ◌≡◌, List, ℕ, Option}
+use Rattle.std.specs.Option.{unwrap_or}
 use Rattle.departure.specs.declared.Departure.{Departure}
 use Rattle.departure.specs.declared.Departure.TheVariants.{Same}
-use Rattle.judging.specs.declared.Judgement.{Judgement}
-use Rattle.judging.specs.declared.Judgement.TheVariants.{Open, Decided}
 use Rattle.judge.specs.declared.Judge.{Judge}
 use Rattle.dayjudge.specs.declared.Turned.{Turned}
 use Rattle.judging.specs.Judging.{asks}
 use Rattle.judge.specs.Answers.{judging_of, DayGiven, SheetGiven}
 
 -- what was found; the same where nothing is yet
-abbrev pub found_in : Judgement → Departure
-found_in Open = Same
-found_in (Decided d) = d
+abbrev pub found_in : Option Departure → Departure
+found_in v = unwrap_or v Same
 
 -- a call in its turn, with all that is still to come: the rest s of the day, or the rest g of the
 -- sheet

@@ -3,13 +3,12 @@
 
 ghost use Rattle.std.specs.Prelude.{◌≡◌};
 ghost use Rattle.departure.specs.Departure.{judged};
-ghost use Rattle.dayjudge.specs.Steps.{found_in, Turns};
+ghost use Rattle.dayjudge.specs.Steps.{Turns};
 
 use departure::Departure;
 use feed::Feed;
 use group::{Links, Table};
 use judge::Judge;
-use judging::Judgement;
 use places::Packed;
 
 // How many bytes of the day and of the sheet were taken, and the judge then.
@@ -18,15 +17,6 @@ struct Turned {
     day: usize,
     sheet: usize,
     judge: Judge,
-}
-
-fn found(judgement: Judgement) -> Departure
-    ensures { result ≡ found_in judgement }
-{
-    match judgement {
-        Judgement::Open => Departure::Same,
-        Judgement::Decided(departure) => departure,
-    }
 }
 
 // The rest of the day where it is asked for, else the rest of the sheet.
@@ -85,6 +75,5 @@ pub fn departure(day: &[u8], sheet: &[u8]) -> Departure
         i += turned.day;
         j += turned.sheet;
     }
-    let judgement = judge.judgement();
-    found(judgement)
+    judge.judgement().unwrap_or(Departure::Same)
 }

@@ -1,5 +1,5 @@
 -- What private functions answer. Nothing is promised here.
-use Rattle.std.specs.Prelude.{List, [], ℕ, eqb, get_or}
+use Rattle.std.specs.Prelude.{List, [], ℕ, eqb, get_or, Option, Some, None}
 use Rattle.lists.specs.Choice.{choose}
 use Rattle.refusal.specs.Answer.{Answer, accepted, in_turn}
 use Rattle.text.specs.Line.{field}
@@ -10,12 +10,11 @@ use Rattle.roles.specs.declared.Verb.{Verb}
 use Rattle.periods.specs.Period.{least_period, greatest_period}
 use Rattle.roles.specs.Verbs.{paired}
 use Rattle.day.specs.Read.{DayLine, wrong, period, server, entry, end, Named, called, unknown, when_good}
-use Rattle.dayline.specs.declared.Named.{Named as Word}
-use Rattle.dayline.specs.declared.Named.TheVariants.{Called, Unknown}
 
-abbrev pub of_named : Word → Named
-of_named (Called v) = called v
-of_named Unknown = unknown
+-- the verb that a word names, if it does
+abbrev pub of_named : Option Verb → Named
+of_named (Some v) = called v
+of_named None = unknown
 
 -- the line l where k fields are the n that it should have
 abbrev pub counted : ℕ → ℕ → DayLine → DayLine

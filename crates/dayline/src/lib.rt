@@ -16,14 +16,12 @@ use heartbeat::Rank;
 use periods::Period;
 use refusal::Refusal;
 use roles::Verb;
-use text::{Line, LineAnswer, NumberAnswer};
-use timecode::{Timecode, TimecodeAnswer};
+use text::Line;
+use timecode::Timecode;
 
-// What a line says, or the refusal of one that says nothing. A verb of one identity has 0 as the
-// second.
+// What a line says. A verb of one identity has 0 as the second.
 #[derive(Clone, Copy)]
 pub enum DayLine {
-    Wrong(Refusal),
     Period(u32),
     Server {
         identity: u16,
@@ -38,31 +36,24 @@ pub enum DayLine {
     End(u32),
 }
 
-// A word that may be a verb.
-#[derive(Clone, Copy)]
-enum Named {
-    Called(Verb),
-    Unknown,
-}
-
 // ---- words
 
 // The verb where s is its word, else what the words after it found.
-fn called(s: &[u8], word: &[u8], verb: Verb, other: Named) -> Named
+fn called(s: &[u8], word: &[u8], verb: Verb, other: Option<Verb>) -> Option<Verb>
     ensures { of_named result ≡ choose (same s.now word.now) (called verb) (of_named other) }
 {
     if text::same(s, word) {
-        Named::Called(verb)
+        Some(verb)
     } else {
         other
     }
 }
 
 // The verb that s names, by the words from the last to the first.
-fn verb_named(s: &[u8]) -> Named
+fn verb_named(s: &[u8]) -> Option<Verb>
     ensures { of_named result ≡ verb_named s.now }
 {
-    let mend = called(s, b"mend", Verb::Mend, Named::Unknown);
+    let mend = called(s, b"mend", Verb::Mend, None);
     let cut = called(s, b"cut", Verb::Cut, mend);
     let restart = called(s, b"restart", Verb::Restart, cut);
     let crash = called(s, b"crash", Verb::Crash, restart);
@@ -96,104 +87,85 @@ fn field_from(s: &[u8], tab: usize) -> &[u8]
 
 // ---- the fields after the line's word
 
-fn read_period(s: &[u8]) -> DayLine
+fn read_period(s: &[u8]) -> Result<DayLine, Refusal>
     ensures { of_day_line result ≡ when_good (read_period (field s.now 0)) period_of }
 {
-    match text::read_number(text::first_field(s), Period::MIN as u64, Period::MAX as u64) {
-        NumberAnswer::Is(n) => DayLine::Period(n as u32),
-        NumberAnswer::Refused(k) => DayLine::Wrong(k),
-    }
+    let frames = text::read_number(text::first_field(s), Period::MIN as u64, Period::MAX as u64)?;
+    Ok(DayLine::Period(frames as u32))
 }
 
-fn from_priority(s: &[u8], identity: u16) -> DayLine
-    ensures { of_day_line result ≡ when_good (in_turn (accepted (identity ∷ [])) (read_priority (field s.now 0))) server_of }
-{
-    match Rank::read_priority(text::first_field(s)) {
-        NumberAnswer::Is(n) => DayLine::Server {
-            identity,
-            priority: n as u8,
-        },
-        NumberAnswer::Refused(k) => DayLine::Wrong(k),
-    }
-}
-
-fn read_server(s: &[u8]) -> DayLine
+fn read_server(s: &[u8]) -> Result<DayLine, Refusal>
     ensures { of_day_line result ≡ when_good (in_turn (read_identity (field s.now 0)) (read_priority (field s.now 1))) server_of }
 {
-    match Rank::read_identity(text::first_field(s)) {
-        NumberAnswer::Is(n) => from_priority(text::after_field(s), n as u16),
-        NumberAnswer::Refused(k) => DayLine::Wrong(k),
-    }
+    let identity = Rank::read_identity(text::first_field(s))?;
+    let rest = text::after_field(s);
+    let priority = Rank::read_priority(text::first_field(rest))?;
+    Ok(DayLine::Server {
+        identity: identity as u16,
+        priority: priority as u8,
+    })
 }
 
-fn read_end(s: &[u8]) -> DayLine
+fn read_end(s: &[u8]) -> Result<DayLine, Refusal>
     ensures { of_day_line result ≡ when_good (read_timecode (field s.now 0)) end_of }
 {
-    match Timecode::read(text::first_field(s)) {
-        TimecodeAnswer::Is(t) => DayLine::End(t.frame()),
-        TimecodeAnswer::Refused(k) => DayLine::Wrong(k),
-    }
+    let time = Timecode::read(text::first_field(s))?;
+    Ok(DayLine::End(time.frame()))
 }
 
 // ---- the fields of an entry: its time, and s after its verb
 
-fn from_second(verb: Verb, time: u32, first: u16, s: &[u8]) -> DayLine
+fn from_second(verb: Verb, time: u32, first: u16, s: &[u8]) -> Result<DayLine, Refusal>
     ensures { of_day_line result ≡ when_good (in_turn (accepted (time ∷ first ∷ [])) (read_identity (field s.now 0))) (entry_of verb) }
 {
-    match Rank::read_identity(text::first_field(s)) {
-        NumberAnswer::Is(n) => DayLine::Entry {
-            time,
-            verb,
-            first,
-            second: n as u16,
-        },
-        NumberAnswer::Refused(k) => DayLine::Wrong(k),
-    }
+    let second = Rank::read_identity(text::first_field(s))?;
+    Ok(DayLine::Entry {
+        time,
+        verb,
+        first,
+        second: second as u16,
+    })
 }
 
-fn after_first(verb: Verb, time: u32, first: u16, s: &[u8]) -> DayLine
+fn after_first(verb: Verb, time: u32, first: u16, s: &[u8]) -> Result<DayLine, Refusal>
     ensures { of_day_line result ≡ when_good (in_turn (accepted (time ∷ first ∷ [])) (read_second verb (field s.now 0))) (entry_of verb) }
 {
     if roles::paired(verb) {
         from_second(verb, time, first, s)
     } else {
-        DayLine::Entry {
+        Ok(DayLine::Entry {
             time,
             verb,
             first,
             second: 0,
-        }
+        })
     }
 }
 
-fn from_first(verb: Verb, time: u32, s: &[u8]) -> DayLine
+fn from_first(verb: Verb, time: u32, s: &[u8]) -> Result<DayLine, Refusal>
     ensures { of_day_line result ≡ when_good (in_turn (accepted (time ∷ [])) (in_turn (read_identity (field s.now 0)) (read_second verb (field s.now 1)))) (entry_of verb) }
 {
     let tab = text::find(s, b'\t');
-    match Rank::read_identity(field_to(s, tab)) {
-        NumberAnswer::Is(n) => after_first(verb, time, n as u16, field_from(s, tab)),
-        NumberAnswer::Refused(k) => DayLine::Wrong(k),
-    }
+    let first = Rank::read_identity(field_to(s, tab))?;
+    after_first(verb, time, first as u16, field_from(s, tab))
 }
 
-fn read_entry(verb: Verb, time: &[u8], s: &[u8]) -> DayLine
+fn read_entry(verb: Verb, time: &[u8], s: &[u8]) -> Result<DayLine, Refusal>
     ensures { of_day_line result ≡ when_good (entry_read verb time.now s.now) (entry_of verb) }
 {
-    match Timecode::read(time) {
-        TimecodeAnswer::Is(t) => from_first(verb, t.frame(), s),
-        TimecodeAnswer::Refused(k) => DayLine::Wrong(k),
-    }
+    let time = Timecode::read(time)?;
+    from_first(verb, time.frame(), s)
 }
 
 // ---- the count of fields comes before what they say
 
-fn counted(count: usize, due: usize, line: DayLine) -> DayLine
+fn counted(count: usize, due: usize, line: Result<DayLine, Refusal>) -> Result<DayLine, Refusal>
     ensures { of_day_line result ≡ counted count due (of_day_line line) }
 {
     if count == due {
         line
     } else {
-        DayLine::Wrong(Refusal::Form)
+        Err(Refusal::Form)
     }
 }
 
@@ -204,21 +176,19 @@ fn fields_of(verb: Verb) -> usize
 }
 
 // An entry of so many fields; s is what follows its time.
-fn from_verb(time: &[u8], s: &[u8], count: usize) -> DayLine
+fn from_verb(time: &[u8], s: &[u8], count: usize) -> Result<DayLine, Refusal>
     ensures { of_day_line result ≡ entry_named (verb_named (field s.now 0)) time.now (after_field s.now) count }
 {
     let tab = text::find(s, b'\t');
-    match verb_named(field_to(s, tab)) {
-        Named::Called(verb) => counted(
-            count,
-            fields_of(verb),
-            read_entry(verb, time, field_from(s, tab)),
-        ),
-        Named::Unknown => DayLine::Wrong(Refusal::Form),
-    }
+    let verb = verb_named(field_to(s, tab)).ok_or(Refusal::Form)?;
+    counted(
+        count,
+        fields_of(verb),
+        read_entry(verb, time, field_from(s, tab)),
+    )
 }
 
-fn read_body(s: &[u8]) -> DayLine
+fn read_body(s: &[u8]) -> Result<DayLine, Refusal>
     ensures { of_day_line result ≡ body_read s.now }
 {
     let count = text::field_count(s);
@@ -239,15 +209,10 @@ fn read_body(s: &[u8]) -> DayLine
 
 impl DayLine {
     // What a line says, its line feed included: 1, then 2 and 3 field by field.
-    pub fn read(line: &[u8]) -> DayLine
+    pub fn read(line: &[u8]) -> Result<DayLine, Refusal>
         ensures { of_day_line result ≡ line_read line.now }
     {
-        match Line::read(line) {
-            LineAnswer::Is(whole) => {
-                let n = whole.length;
-                read_body(&line[..n])
-            }
-            LineAnswer::Refused(k) => DayLine::Wrong(k),
-        }
+        let whole = Line::read(line)?;
+        read_body(&line[..whole.length])
     }
 }

@@ -1,4 +1,5 @@
 -- A whole day, printed in one call. Assumes nothing.
+use Rattle.std.specs.Prelude.{Ok}
 use mathlib.Core.Bool.{true, false}
 use mathlib.Core.Path.{◌≡◌, refl, sym, ap, ap₂, subst, ◌∙◌}
 use mathlib.Core.List.{List, [], ◌∷◌, ◌++◌, append-nil}
@@ -9,7 +10,6 @@ use Rattle.lists.specs.Splice.{splice}
 use Rattle.lists.proofs.Cases.{tested, on, clash}
 use Rattle.lists.proofs.Splicing.{splices, splice-length}
 use Rattle.lists.proofs.Parts.{part-rest}
-use Rattle.text.specs.declared.Written.TheVariants.{To}
 use Rattle.text.specs.Write.{Writes}
 use Rattle.text.proofs.Writing.{writes-to}
 use Rattle.day.specs.Sheet.{header, sheet}
@@ -65,7 +65,7 @@ module _ (s : List ℕ) {d : List ℕ} {b : Step} {d₁ : List ℕ} {at : ℕ} (
     pub all-within : at + length lines ≤ length d
     all-within = let a = place in let l = ap length whole in let k = length-append header lines in omega arith
 
-    pub writes-all : {n : ℕ} {d' : List ℕ} → n ≡ written_bytes r.written → d' ≡ take at d₁ ++ (e ++ drop (length d₁ - at) (drop at d₁)) → Writes d 0 (sheet s) (To (at + n)) d'
+    pub writes-all : {n : ℕ} {d' : List ℕ} → n ≡ written_bytes r.written → d' ≡ take at d₁ ++ (e ++ drop (length d₁ - at) (drop at d₁)) → Writes d 0 (sheet s) (Ok (at + n)) d'
     writes-all {n} {d'} q z =
         let l = ap length whole in
         let k = length-append header lines in

@@ -10,7 +10,6 @@ ghost use Rattle.daysheet.specs.Steps.{Spends};
 use feed::Feed;
 use group::Table;
 use refusal::Refusal;
-use text::Written;
 
 // Whether bytes fit into what is left, and what is left then.
 #[derive(Clone, Copy)]
@@ -19,11 +18,11 @@ struct Spent {
     left: usize,
 }
 
-fn spend(written: Written, left: usize) -> Spent
+fn spend(written: Result<usize, Refusal>, left: usize) -> Spent
     ensures { Spends written left result }
 {
     match written {
-        Written::To(n) => {
+        Ok(n) => {
             if n > left {
                 Spent { fits: false, left }
             } else {
@@ -33,7 +32,7 @@ fn spend(written: Written, left: usize) -> Spent
                 }
             }
         }
-        Written::Refused(_) => Spent { fits: false, left },
+        Err(_) => Spent { fits: false, left },
     }
 }
 
@@ -80,7 +79,7 @@ fn fits(day: &[u8], scratch: &mut [u8], room: usize) -> bool
 // The sheet of a day into a slice in which it fits: its length.
 fn write(day: &[u8], out: &mut [u8]) -> usize
     requires { length (sheet day.now) ≤ length out.old }
-    ensures { Writes out.old 0 (sheet day.now) (Written.To result) out.new }
+    ensures { Writes out.old 0 (sheet day.now) (Ok result) out.new }
 {
     let begun = Feed::begin(out);
     let header = begun.written;
@@ -104,13 +103,13 @@ fn write(day: &[u8], out: &mut [u8]) -> usize
 
 // The sheet of a whole day, at the slice's start; 9 where it does not fit, and then no byte is
 // changed.
-pub fn sheet(day: &[u8], out: &mut [u8]) -> Written
+pub fn sheet(day: &[u8], out: &mut [u8]) -> Result<usize, Refusal>
     ensures { Writes out.old 0 (sheet day.now) result out.new }
 {
     let mut scratch = [0; Feed::STEP];
     if fits(day, &mut scratch, out.len()) {
-        Written::To(write(day, out))
+        Ok(write(day, out))
     } else {
-        Written::Refused(Refusal::Short)
+        Err(Refusal::Short)
     }
 }

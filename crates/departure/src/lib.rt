@@ -79,11 +79,10 @@ fn count(due: &[u8], found: &[u8], at: usize) -> Counted
 {
     let mut equal: u8 = 0;
     let mut lines: u8 = 0;
-    let mut i: usize = 0;
-    while i < BLOCK {
-        equal += alike(due[at + i], found[at + i]);
-        lines += line_feed(due[at + i]);
-        i += 1;
+    let pairs = due[at..at + BLOCK].iter().zip(&found[at..at + BLOCK]);
+    for (d, f) in pairs {
+        equal += alike(*d, *f);
+        lines += line_feed(*d);
     }
     Counted { equal, lines }
 }
@@ -93,16 +92,17 @@ fn skip(due: &[u8], found: &[u8]) -> Skipped
     ensures { Comparing due.now found.now result.lines result.bytes }
 {
     let mut lines: usize = 0;
-    let mut i: usize = 0;
-    while (due.len() - i >= BLOCK) & (found.len() - i >= BLOCK) {
-        let counted = count(due, found, i);
+    let blocks = due.len().min(found.len()) / BLOCK;
+    for block in 0..blocks {
+        let bytes = BLOCK * block;
+        let counted = count(due, found, bytes);
         if counted.equal as usize != BLOCK {
-            return Skipped { bytes: i, lines };
+            return Skipped { bytes, lines };
         }
         lines += counted.lines as usize;
-        i += BLOCK;
     }
-    Skipped { bytes: i, lines }
+    let bytes = BLOCK * blocks;
+    Skipped { bytes, lines }
 }
 
 // The bytes due and those found, as far as both go.
@@ -111,8 +111,8 @@ pub fn compare(due: &[u8], found: &[u8]) -> Compared
 {
     let skipped = skip(due, found);
     let mut lines = skipped.lines;
-    let mut i = skipped.bytes;
-    while (i < due.len()) & (i < found.len()) {
+    let end = due.len().min(found.len());
+    for i in skipped.bytes..end {
         if due[i] != found[i] {
             return Compared {
                 departed: true,
@@ -121,11 +121,10 @@ pub fn compare(due: &[u8], found: &[u8]) -> Compared
             };
         }
         lines += line_feed(due[i]) as usize;
-        i += 1;
     }
     Compared {
         departed: false,
-        bytes: i,
+        bytes: end,
         lines,
     }
 }

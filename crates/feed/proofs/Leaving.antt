@@ -1,4 +1,5 @@
 -- What becomes of a feed, and of the numbers and links lent to it. Assumes nothing.
+use Rattle.std.specs.Prelude.{Ok, Err}
 use mathlib.Core.Bool.{Bool, true}
 use mathlib.Core.Path.{◌≡◌, refl, sym, ap, subst, ◌∙◌}
 use mathlib.Core.List.{List}
@@ -9,9 +10,8 @@ use borrow.Author.Tests.{eq-eqb, ne_eqb}
 use lib.Dec.{eqb}
 use lib.ListN.{length, take}
 use Rattle.lists.specs.Choice.{choose}
-use Rattle.lists.proofs.Cases.{tested, on, clash, chosen, other}
+use Rattle.lists.proofs.Cases.{on, clash, chosen, other}
 use Rattle.refusal.specs.declared.Refusal.{Refusal}
-use Rattle.text.specs.declared.Written.TheVariants.{To, Refused}
 use Rattle.periods.specs.declared.Period.{Period}
 use Rattle.group.specs.declared.State.{State}
 use Rattle.places.specs.Words.{words_of, Canonical}
@@ -23,7 +23,7 @@ use Rattle.feed.specs.Answers.{day_of, channel_of, fed_of, stage_of, unmade, fee
 use Rattle.feed.specs.Steps.{turned, Made, Passes}
 
 -- a write that was done was not refused
-pub not-refused : {A : Type 0} {n : ℕ} {k : Refusal} → To n ≡ Refused k → A
+pub not-refused : {A : Type 0} {n : ℕ} {k : Refusal} → Ok n ≡ Err k → A
 not-refused e = absurd (let z : ◌≡◌ {A = ℕ} 0 1 = cc in omega arith)
 
 -- ---- passing

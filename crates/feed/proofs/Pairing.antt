@@ -1,4 +1,5 @@
 -- Two steps. Assumes nothing.
+use Rattle.std.specs.Prelude.{Result, Ok, Err}
 use mathlib.Core.Bool.{Bool, true, false}
 use mathlib.Core.Path.{◌≡◌, refl, sym, ap, ap₂, subst, ◌∙◌}
 use mathlib.Core.List.{List, [], ◌++◌, append-nil, append_assoc}
@@ -12,8 +13,6 @@ use Rattle.lists.proofs.Cases.{less, on, chosen, other}
 use Rattle.lists.proofs.Splicing.{splice-none, splices, splice-length}
 use Rattle.lists.proofs.Parts.{part-rest}
 use Rattle.refusal.specs.declared.Refusal.{Refusal}
-use Rattle.text.specs.declared.Written.{Written}
-use Rattle.text.specs.declared.Written.TheVariants.{To, Refused}
 use Rattle.text.specs.Write.{wrote, Writes}
 use Rattle.text.proofs.Writing.{writes-to, written-end, written-slice}
 use Rattle.day.specs.Read.{DayLine, line_read}
@@ -36,17 +35,17 @@ pub record Done (m : Move) (d : List ℕ) (n : ℕ) (f' : Fed) (d' : List ℕ) :
   pub slice : d' ≡ splice d 0 m.lines
   pub fed : f' ≡ m.fed
 
-module _ {f : Fed} {m : Move} {d : List ℕ} {p : Written} {f' : Fed} {d' : List ℕ} (q : Makes f m d p f' d') where
-  written_as : {p' : Written} → p ≡ p' → Writes d 0 m.lines p' d'
-  written_as e = subst (λ (x : Written). Writes d 0 m.lines x d') e q.out
+module _ {f : Fed} {m : Move} {d : List ℕ} {p : Result ℕ Refusal} {f' : Fed} {d' : List ℕ} (q : Makes f m d p f' d') where
+  written_as : {p' : Result ℕ Refusal} → p ≡ p' → Writes d 0 m.lines p' d'
+  written_as e = subst (λ (x : Result ℕ Refusal). Writes d 0 m.lines x d') e q.out
 
-  pub made : {n : ℕ} → p ≡ To n → Done m d n f' d'
+  pub made : {n : ℕ} → p ≡ Ok n → Done m d n f' d'
   made e =
       let w = written_as e in
       let h = leb-true (0 + length m.lines) (length d) (it_fits w) in
       record { fits = omega arith; end = omega (arith, written-end h w); slice = written-slice h w; fed = q.fed ∙ chosen f (it_fits w) }
 
-  pub not_made : {k : Refusal} → p ≡ Refused k → (length d < length m.lines) × (f' ≡ f) × (d' ≡ d)
+  pub not_made : {k : Refusal} → p ≡ Err k → (length d < length m.lines) × (f' ≡ f) × (d' ≡ d)
   unfolding wrote
   not_made e =
       let no = it_does_not (written_as e) in
@@ -83,37 +82,37 @@ module _ (f : Fed) (n : ℕ) (d : List ℕ) where
   abbrev part : List ℕ
   part = take (length d - n) (drop n d)
 
-  pub follows-none : waits f ≡ false → Follows f n d (To n) f d
+  pub follows-none : waits f ≡ false → Follows f n d (Ok n) f d
   follows-none e =
       let z = step-idle f e (length d - n) in
       let none : length move.lines ≡ 0 = ap (λ (x : Move). length x.lines) z in
       record {
-        so = λ h. (ap To (omega arith), sym (ap (λ (x : Move). x.fed) z), sym (ap (λ (x : Move). splice d n x.lines) z ∙ splice-none d n));
+        so = λ h. (ap Ok (omega arith), sym (ap (λ (x : Move). x.fed) z), sym (ap (λ (x : Move). splice d n x.lines) z ∙ splice-none d n));
         not = λ h. absurd (omega arith);
       }
 
-  module _ {l : DayLine} {p : Written} {f' : Fed} {e : List ℕ} (w : waits f ≡ true) (is : l ≡ line_read f.line) (q : Makes f (line_move f (length part) l) part p f' e) where
+  module _ {l : DayLine} {p : Result ℕ Refusal} {f' : Fed} {e : List ℕ} (w : waits f ≡ true) (is : l ≡ line_read f.line) (q : Makes f (line_move f (length part) l) part p f' e) where
     there : Makes f move (drop n d) p f' e
     there =
         let long : length part ≡ length d - n = ap length (part-rest d n) ∙ length-drop n d in
         subst (λ (x : List ℕ). Makes f move x p f' e) (part-rest d n) (makes_as (step_is f (length part) w is ∙ ap (step_move f) long) q)
 
-    pub within : {m : ℕ} → p ≡ To m → m ≤ length d - n
+    pub within : {m : ℕ} → p ≡ Ok m → m ≤ length d - n
     within t = let r = made there t in omega (arith, r.fits, r.end, length-drop n d)
 
     module _ {d' : List ℕ} (z : d' ≡ take n d ++ (e ++ drop (length d - n) (drop n d))) where
       put_back : (v : List ℕ) → e ≡ splice (drop n d) 0 v → d' ≡ splice d n v
       put_back v s = z ∙ ap (λ (x : List ℕ). take n d ++ (x ++ drop (length d - n) (drop n d))) s ∙ part-written d n v
 
-      pub follows-made : {m : ℕ} → p ≡ To m → Follows f n d (To (n + m)) f' d'
+      pub follows-made : {m : ℕ} → p ≡ Ok m → Follows f n d (Ok (n + m)) f' d'
       follows-made t =
           let r = made there t in
           record {
-            so = λ h. (ap (λ (i : ℕ). To (n + i)) r.end, r.fed, put_back move.lines r.slice);
+            so = λ h. (ap (λ (i : ℕ). Ok (n + i)) r.end, r.fed, put_back move.lines r.slice);
             not = λ h. absurd (omega (arith, r.fits, length-drop n d));
           }
 
-      pub follows-not : {k : Refusal} → p ≡ Refused k → Follows f n d (To n) f' d'
+      pub follows-not : {k : Refusal} → p ≡ Err k → Follows f n d (Ok n) f' d'
       follows-not t =
           let r = not_made there t in
           record {
@@ -124,12 +123,12 @@ module _ (f : Fed) (n : ℕ) (d : List ℕ) where
 -- ---- both
 
 -- the line that was read is still the line
-pub still : {f : Fed} {l : DayLine} {d : List ℕ} {p : Written} {n : ℕ} {f' : Fed} {d' : List ℕ} → Makes f (line_move f (length d) l) d p f' d' → p ≡ To n → l ≡ line_read f.line → waits f' ≡ true → l ≡ line_read f'.line
+pub still : {f : Fed} {l : DayLine} {d : List ℕ} {p : Result ℕ Refusal} {n : ℕ} {f' : Fed} {d' : List ℕ} → Makes f (line_move f (length d) l) d p f' d' → p ≡ Ok n → l ≡ line_read f.line → waits f' ≡ true → l ≡ line_read f'.line
 still {f} {l} {d} q t is e =
     let r = made q t in
     is ∙ ap line_read (sym (ap (λ (x : Fed). x.line) r.fed ∙ line_kept f (length d) l (sym (ap waits r.fed) ∙ e)))
 
-module _ {f : Fed} {d : List ℕ} {p : Written} {g : Fed} {e : List ℕ} (q : Makes f (step_move f (length d)) d p g e) where
+module _ {f : Fed} {d : List ℕ} {p : Result ℕ Refusal} {g : Fed} {e : List ℕ} (q : Makes f (step_move f (length d)) d p g e) where
   abbrev first : Move
   first = step_move f (length d)
 
@@ -139,10 +138,10 @@ module _ {f : Fed} {d : List ℕ} {p : Written} {g : Fed} {e : List ℕ} (q : Ma
   long : length (first.lines ++ next.lines) ≡ length first.lines + length next.lines
   long = length-append first.lines next.lines
 
-  pub pairs-refused : {k : Refusal} → p ≡ Refused k → Makes f (steps_move f (length d)) d (Refused k) g e
-  pairs-refused t = makes_as (both-not first next (omega (arith, (not_made q t).0, long))) (subst (λ (x : Written). Makes f first d x g e) t q)
+  pub pairs-refused : {k : Refusal} → p ≡ Err k → Makes f (steps_move f (length d)) d (Err k) g e
+  pairs-refused t = makes_as (both-not first next (omega (arith, (not_made q t).0, long))) (subst (λ (x : Result ℕ Refusal). Makes f first d x g e) t q)
 
-  pub pairs_made : {n : ℕ} {p' : Written} {f' : Fed} {d' : List ℕ} → p ≡ To n → Follows g n e p' f' d' → Makes f (steps_move f (length d)) d p' f' d'
+  pub pairs_made : {n : ℕ} {p' : Result ℕ Refusal} {f' : Fed} {d' : List ℕ} → p ≡ Ok n → Follows g n e p' f' d' → Makes f (steps_move f (length d)) d p' f' d'
   pairs_made {n} {p'} {f'} {d'} t v =
       let r = made q t in
       let kept : length e ≡ length d = ap length r.slice ∙ splice-length d 0 first.lines (omega (arith, r.fits)) in
@@ -159,6 +158,6 @@ module _ {f : Fed} {d : List ℕ} {p : Written} {g : Fed} {e : List ℕ} (q : Ma
       let is : d' ≡ splice d 0 (first.lines ++ next.lines) = z.2 ∙ ap (splice e n) lines ∙ ap₂ (λ (x : List ℕ) (i : ℕ). splice x i next.lines) r.slice at ∙ splices d 0 first.lines next.lines fit in
       makes_as (both_so first next (omega arith))
       (record {
-        out = subst (λ (x : Written). Writes d 0 (first.lines ++ next.lines) x d') (sym z.0) (writes-to fit (omega (arith, long, ap length lines, r.end)) is);
+        out = subst (λ (x : Result ℕ Refusal). Writes d 0 (first.lines ++ next.lines) x d') (sym z.0) (writes-to fit (omega (arith, long, ap length lines, r.end)) is);
         fed = z.1 ∙ ap (λ (x : Move). x.fed) same ∙ sym (chosen f (le-leb (0 + length (first.lines ++ next.lines)) (length d) fit));
       }))

@@ -1,4 +1,5 @@
 -- A feed by its stage, and what its functions make together. Assumes nothing.
+use Rattle.std.specs.Prelude.{Result, Ok, Err}
 use mathlib.Core.Bool.{Bool, true, false}
 use mathlib.Core.Path.{◌≡◌, refl, sym, ap, subst, ◌∙◌}
 use mathlib.Core.List.{List, [], ◌∷◌}
@@ -9,15 +10,9 @@ use lib.Dec.{eqb}
 use lib.ListN.{get_or}
 use Rattle.lists.proofs.Cases.{tested, equal, on, chosen, other, and_true, and_left}
 use Rattle.refusal.specs.declared.Refusal.{Refusal}
-use Rattle.refusal.specs.declared.Verdict.{Verdict}
-use Rattle.refusal.specs.declared.Verdict.TheVariants.{Accepted, Refused}
 use Rattle.refusal.specs.Answer.{Answer, accepted, of_verdict, number_of}
 use Rattle.refusal.proofs.Answers.{number-some}
-use Rattle.text.specs.declared.Written.{Written}
-use Rattle.text.specs.declared.Written.TheVariants.{To}
 use Rattle.periods.specs.declared.Period.{Period}
-use Rattle.periods.specs.declared.PeriodAnswer.{PeriodAnswer}
-use Rattle.periods.specs.declared.PeriodAnswer.TheVariants.{Is, Refused as Declined}
 use Rattle.server.specs.declared.Server.{Server}
 use Rattle.roles.specs.declared.Verb.{Verb}
 use Rattle.periods.specs.Period.{least_period, greatest_period, of_period, take_period}
@@ -48,7 +43,7 @@ use Rattle.feed.proofs.Making.{makes-written, makes-refused, makes_as, does_as}
 -- what holds of the day in its stage holds of the feed's day
 module _ (x : Feed) {g : Stage} (e : x.stage ≡ g) where
   pub does_at :
-      (l w : List ℕ) (k : List Bool) {d : List ℕ} {p : Written} {y : Feed} {w' : List ℕ} {k' : List Bool} {d' : List ℕ} (m : Day → Move) → MakesAll x l w k (m (day_of g (channel_of x w k))) d p y w' k' d' →
+      (l w : List ℕ) (k : List Bool) {d : List ℕ} {p : Result ℕ Refusal} {y : Feed} {w' : List ℕ} {k' : List Bool} {d' : List ℕ} (m : Day → Move) → MakesAll x l w k (m (day_of g (channel_of x w k))) d p y w' k' d' →
       MakesAll x l w k (m (fed_of x l w k).day) d p y w' k' d'
   does_at l w k m q = does_as (ap (λ (s : Stage). m (day_of s (channel_of x w k))) (sym e)) q
 
@@ -76,24 +71,24 @@ in_range_lem : {n : ℕ} → least_period ≤ n → n ≤ greatest_period → ta
 unfolding take_period
 in_range_lem {n} lo hi = chosen _ (and_true (le-leb least_period n lo) (le-leb n greatest_period hi))
 
-module _ {n : ℕ} (lo : least_period ≤ n) (hi : n ≤ greatest_period) (r : PeriodAnswer) (q : of_period r ≡ take_period n) where
-  pub period-is : {p : Period} → r ≡ Is p → p.frames ≡ n
+module _ {n : ℕ} (lo : least_period ≤ n) (hi : n ≤ greatest_period) (r : Result Period Refusal) (q : of_period r ≡ take_period n) where
+  pub period-is : {p : Period} → r ≡ Ok p → p.frames ≡ n
   period-is e = ap (λ (a : Answer). get_or a.values 0 0) (sym (ap of_period e) ∙ q ∙ in_range_lem lo hi)
 
-  pub period-taken : {k : Refusal} → r ≡ Declined k → ⊥
+  pub period-taken : {k : Refusal} → r ≡ Err k → ⊥
   period-taken {k} e = let z : number_of k ≡ 0 = ap (λ (a : Answer). a.number) (sym (ap of_period e) ∙ q ∙ in_range_lem lo hi) in omega (arith, number-some k)
 
 -- ---- the table of the servers so far
 
 module _ {l : List Server} {r : Added} (q : Takes l r) where
-  pub is-taken : r.verdict ≡ Accepted → r.table ≡ record { servers = l }
+  pub is-taken : r.verdict ≡ Ok tt → r.table ≡ record { servers = l }
   unfolding table_with
   is-taken v =
       on (tested (is_table l))
       (λ e. q.table ∙ chosen _ e)
       (λ e. absurd (omega (arith, sym (ap of_verdict v) ∙ q.number ∙ other 0 e)))
 
-  pub not_taken : {k : Refusal} → r.verdict ≡ Refused k → (is_table l ≡ false) × (number_of k ≡ 2)
+  pub not_taken : {k : Refusal} → r.verdict ≡ Err k → (is_table l ≡ false) × (number_of k ≡ 2)
   not_taken {k} v =
       on (tested (is_table l))
       (λ e. absurd (omega (arith, number-some k, sym (ap of_verdict v) ∙ q.number ∙ chosen 2 e)))
@@ -105,13 +100,13 @@ module _ (f : Fed) (c : State) (i p : ℕ) {s : List Server} (e : s ≡ c.server
   q : Adds (table_of c) i p r
   q = subst (λ (l : List Server). Adds (record { servers = l }) i p r) e q₀
 
-  pub add_so : r.verdict ≡ Accepted → going f [] (during atServers (fresh r.table c.period.frames)) ≡ effect_move f (add_effect c i p)
+  pub add_so : r.verdict ≡ Ok tt → going f [] (during atServers (fresh r.table c.period.frames)) ≡ effect_move f (add_effect c i p)
   unfolding add_effect
   add_so v =
       ap (λ (t : Table). going f [] (during atServers (fresh t c.period.frames))) q.table
       ∙ ap (effect_move f) (sym (chosen _ (eq-eqb (add_refusal (table_of c) i) 0 (sym q.number ∙ ap of_verdict v))))
 
-  pub add_not : {k : Refusal} → r.verdict ≡ Refused k → stopping f (number_of k) ≡ effect_move f (add_effect c i p)
+  pub add_not : {k : Refusal} → r.verdict ≡ Err k → stopping f (number_of k) ≡ effect_move f (add_effect c i p)
   unfolding add_effect
   add_not {k} v =
       let is : add_refusal (table_of c) i ≡ number_of k = sym q.number ∙ ap of_verdict v in
@@ -119,7 +114,7 @@ module _ (f : Fed) (c : State) (i p : ℕ) {s : List Server} (e : s ≡ c.server
 
 -- 2, where the servers so far are no table
 pub add_to_none :
-    (f : Fed) (c : State) (i p : ℕ) {s : List Server} → s ≡ c.servers → {r : Added} → Takes s r → {k : Refusal} → r.verdict ≡ Refused k →
+    (f : Fed) (c : State) (i p : ℕ) {s : List Server} → s ≡ c.servers → {r : Added} → Takes s r → {k : Refusal} → r.verdict ≡ Err k →
     stopping f (number_of k) ≡ effect_move f (add_effect c i p)
 unfolding add_effect add_refusal
 add_to_none f c i p {s} e {r} q {k} v =
@@ -128,12 +123,12 @@ add_to_none f c i p {s} e {r} q {k} v =
     sym (ap (effect_move f) (other _ (ap (λ (n : ℕ). eqb n 0) is)) ∙ ap (stopping f) (is ∙ sym t.1))
 
 -- the table of an accepted one is a table
-pub added-table : (t : Table) (i p : ℕ) {r : Added} → Adds t i p r → r.verdict ≡ Accepted → is_table r.table.servers ≡ true
+pub added-table : (t : Table) (i p : ℕ) {r : Added} → Adds t i p r → r.verdict ≡ Ok tt → is_table r.table.servers ≡ true
 added-table t i p q v = ap (λ (x : Table). is_table x.servers) q.table ∙ table-added t i p (sym q.number ∙ ap of_verdict v)
 
 -- ---- a verb
 
-module _ (x : Feed) (l w : List ℕ) (k : List Bool) (v : Verb) (a b : ℕ) {d : List ℕ} {u : Verdict} {n : ℕ} (w' : List ℕ) {k' : List Bool} {d₁ : List ℕ}
+module _ (x : Feed) (l w : List ℕ) (k : List Bool) (v : Verb) (a b : ℕ) {d : List ℕ} {u : Result (Unit {0}) Refusal} {n : ℕ} (w' : List ℕ) {k' : List Bool} {d₁ : List ℕ}
     (g : Gives (channel_of x w k) (verb_outcome (channel_of x w k) v a b) d u n (state_of x.frame x.period (servers_of w') k') d₁) where
   abbrev f : Fed
   f = fed_of x l w k
@@ -141,7 +136,7 @@ module _ (x : Feed) (l w : List ℕ) (k : List Bool) (v : Verb) (a b : ℕ) {d :
   abbrev c : State
   c = channel_of x w k
 
-  pub call-so : {y : Feed} → Made x.stage → (Canonical w → Canonical w') → u ≡ Accepted → y ≡ turned x AtEntries → MakesAll x l w k (effect_move f (call_effect [] c v a b)) d (To n) y w' k' d₁
+  pub call-so : {y : Feed} → Made x.stage → (Canonical w → Canonical w') → u ≡ Ok tt → y ≡ turned x AtEntries → MakesAll x l w k (effect_move f (call_effect [] c v a b)) d (Ok n) y w' k' d₁
   call-so {y} h form e q =
       record {
         makes =
@@ -151,7 +146,7 @@ module _ (x : Feed) (l w : List ℕ) (k : List Bool) (v : Verb) (a b : ℕ) {d :
         same = λ i z. not-refused z;
       }
 
-  pub call-not : {j : Refusal} {r : Step} {d₂ : List ℕ} → u ≡ Refused j → ((w' ≡ w) × (k' ≡ k)) → RefusesCall x a j d₁ r d₂ → MakesAll x l w k (effect_move f (call_effect [] c v a b)) d r.written r.feed w' k' d₂
+  pub call-not : {j : Refusal} {r : Step} {d₂ : List ℕ} → u ≡ Err j → ((w' ≡ w) × (k' ≡ k)) → RefusesCall x a j d₁ r d₂ → MakesAll x l w k (effect_move f (call_effect [] c v a b)) d r.written r.feed w' k' d₂
   call-not {j} {r} {d₂} e s q =
       rw (s.0, s.1)
       (on (equal (number_of j) 9)

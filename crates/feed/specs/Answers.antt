@@ -1,10 +1,8 @@
 -- What the calls of a feed answer.
-use Rattle.std.specs.Prelude.{Bool, true, false, ◌≡◌, List, ℕ, ◌+◌, eqb, length, take}
+use Rattle.std.specs.Prelude.{Bool, true, false, ◌≡◌, List, ℕ, ◌+◌, eqb, length, take, Result, Err}
 use Rattle.lists.specs.Choice.{choose}
 use Rattle.lists.specs.Splice.{splice, fits}
 use Rattle.refusal.specs.declared.Refusal.{Refusal}
-use Rattle.text.specs.declared.Written.{Written}
-use Rattle.text.specs.declared.Written.TheVariants.{Refused}
 use Rattle.text.specs.Write.{Writes}
 use Rattle.periods.specs.Period.{shortest}
 use Rattle.group.specs.declared.State.{State}
@@ -118,7 +116,7 @@ abbrev pub after_move : Fed → Move → List ℕ → Fed
 after_move f m d = choose (fits d 0 m.lines) m.fed f
 
 -- where they do not fit it gets 9, and nothing is written
-pub record Makes (f : Fed) (m : Move) (d : List ℕ) (p : Written) (f' : Fed) (d' : List ℕ) : Type 0 where
+pub record Makes (f : Fed) (m : Move) (d : List ℕ) (p : Result ℕ Refusal) (f' : Fed) (d' : List ℕ) : Type 0 where
   pub out : Writes d 0 m.lines p d'
   pub fed : f' ≡ after_move f m d
 
@@ -128,7 +126,7 @@ pub record MakesIn (x : Feed) (l w : List ℕ) (k : List Bool) (m : Fed → ℕ 
   pub makes : Makes (fed_of x l w k) (m (fed_of x l w k) (length d)) d r.written (fed_of r.feed l w' k') d'
   pub leaves : Leaves x w k 0 (after_move (fed_of x l w k) (m (fed_of x l w k) (length d)) d) r.feed w' k'
   -- refused: all is as it was
-  pub same : (n : Refusal) → r.written ≡ Refused n → (r.feed ≡ x) × (w' ≡ w) × (k' ≡ k) × (d' ≡ d)
+  pub same : (n : Refusal) → r.written ≡ Err n → (r.feed ≡ x) × (w' ≡ w) × (k' ≡ k) × (d' ≡ d)
 
 -- ---- calls to which less is lent: what is not does not matter, and stays
 

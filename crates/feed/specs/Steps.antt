@@ -1,11 +1,8 @@
 -- What private functions answer. Nothing is promised here.
-use Rattle.std.specs.Prelude.{Bool, true, ◌≡◌, List, ◌⊎◌, ℕ, ◌+◌, ◌-◌, ◌≤◌, ◌<◌, length}
+use Rattle.std.specs.Prelude.{Bool, true, ◌≡◌, List, ◌⊎◌, ℕ, ◌+◌, ◌-◌, ◌≤◌, ◌<◌, length, Result, Ok, Err}
 use Rattle.lists.specs.Splice.{splice}
 use Rattle.refusal.specs.declared.Refusal.{Refusal}
-use Rattle.refusal.specs.declared.Verdict.{Verdict}
 use Rattle.refusal.specs.Answer.{of_verdict, number_of}
-use Rattle.text.specs.declared.Written.{Written}
-use Rattle.text.specs.declared.Written.TheVariants.{To, Refused}
 use Rattle.group.specs.declared.State.{State}
 use Rattle.places.specs.Words.{Canonical}
 use Rattle.day.specs.Day.{on, atEntries, refusal}
@@ -38,10 +35,10 @@ pub record Passes (x : Feed) (w : List ℕ) (k : List Bool) (x' : Feed) (w' : Li
   pub opened : x.stage ≡ AtPeriod → Made x'.stage → Canonical w'
 
 -- the move m, and what becomes of the feed and of what is lent to it
-pub record MakesAll (x : Feed) (l w : List ℕ) (k : List Bool) (m : Move) (d : List ℕ) (p : Written) (x' : Feed) (w' : List ℕ) (k' : List Bool) (d' : List ℕ) : Type 0 where
+pub record MakesAll (x : Feed) (l w : List ℕ) (k : List Bool) (m : Move) (d : List ℕ) (p : Result ℕ Refusal) (x' : Feed) (w' : List ℕ) (k' : List Bool) (d' : List ℕ) : Type 0 where
   pub makes : Makes (fed_of x l w k) m d p (fed_of x' l w' k') d'
   pub passes : Passes x w k x' w' k'
-  pub same : (n : Refusal) → p ≡ Refused n → (x' ≡ x) × (w' ≡ w) × (k' ≡ k)
+  pub same : (n : Refusal) → p ≡ Err n → (x' ≡ x) × (w' ≡ w) × (k' ≡ k)
 
 -- a move, made from what is known and the channel, whatever the line is: w and k are the numbers
 -- and the links before it, w' and k' those after it
@@ -61,28 +58,28 @@ abbrev pub turned : Feed → Stage → Feed
 turned x g = record { over = x.over; number = x.number + 1; length = 0; stage = g; frame = x.frame; period = x.period }
 
 -- the line d that was read is the line of f, where that is to be done
-abbrev pub IsOf : DayLine → Fed → Type 0
+abbrev pub IsOf : Result DayLine Refusal → Fed → Type 0
 IsOf d f = waits f ≡ true → of_day_line d ≡ line_read f.line
 
 -- a step of f after the first n bytes of the slice d, where it fits there
-pub record Follows (f : Fed) (n : ℕ) (d : List ℕ) (p : Written) (f' : Fed) (d' : List ℕ) : Type 0 where
+pub record Follows (f : Fed) (n : ℕ) (d : List ℕ) (p : Result ℕ Refusal) (f' : Fed) (d' : List ℕ) : Type 0 where
   pub so :
       length (step_move f (length d - n)).lines ≤ length d - n →
-      (p ≡ To (n + length (step_move f (length d - n)).lines)) × (f' ≡ (step_move f (length d - n)).fed) × (d' ≡ splice d n (step_move f (length d - n)).lines)
-  pub not : length d - n < length (step_move f (length d - n)).lines → (p ≡ To n) × (f' ≡ f) × (d' ≡ d)
+      (p ≡ Ok (n + length (step_move f (length d - n)).lines)) × (f' ≡ (step_move f (length d - n)).fed) × (d' ≡ splice d n (step_move f (length d - n)).lines)
+  pub not : length d - n < length (step_move f (length d - n)).lines → (p ≡ Ok n) × (f' ≡ f) × (d' ≡ d)
 
 -- the same of the feed x and what is lent to it; it is never refused
-pub record FollowsAll (x : Feed) (l w : List ℕ) (k : List Bool) (n : ℕ) (d : List ℕ) (p : Written) (x' : Feed) (w' : List ℕ) (k' : List Bool) (d' : List ℕ) : Type 0 where
+pub record FollowsAll (x : Feed) (l w : List ℕ) (k : List Bool) (n : ℕ) (d : List ℕ) (p : Result ℕ Refusal) (x' : Feed) (w' : List ℕ) (k' : List Bool) (d' : List ℕ) : Type 0 where
   pub follows : Follows (fed_of x l w k) n d p (fed_of x' l w' k') d'
   pub passes : Passes x w k x' w' k'
-  pub accepted : (i : Refusal) → p ≡ Refused i → ⊥
+  pub accepted : (i : Refusal) → p ≡ Err i → ⊥
 
 -- after a write that was done, or refused
-abbrev pub if_written : Written → Feed → Feed → Feed
-if_written (To n) a b = a
-if_written (Refused k) a b = b
+abbrev pub if_written : Result ℕ Refusal → Feed → Feed → Feed
+if_written (Ok n) a b = a
+if_written (Err k) a b = b
 
-pub record Puts (before after : Feed) (p : Written) (r : Step) : Type 0 where
+pub record Puts (before after : Feed) (p : Result ℕ Refusal) (r : Step) : Type 0 where
   pub written : r.written ≡ p
   pub feed : r.feed ≡ if_written p after before
 
@@ -92,9 +89,9 @@ refusing i n f c = going f (refusal c i n) (on atEntries c)
 
 -- a verb of server i that got k: where k is 9 the slice was too short for its lines
 pub record RefusesCall (x : Feed) (i : ℕ) (k : Refusal) (d : List ℕ) (r : Step) (d' : List ℕ) : Type 0 where
-  pub short : number_of k ≡ 9 → (r.written ≡ Refused k) × (r.feed ≡ x) × (d' ≡ d)
+  pub short : number_of k ≡ 9 → (r.written ≡ Err k) × (r.feed ≡ x) × (d' ≡ d)
   pub long : (number_of k ≡ 9 → ⊥) → Keeps x (refusing i (number_of k)) d r d'
 
 -- whether entries may come
-abbrev pub Opens : Feed → List ℕ → Verdict → Type 0
+abbrev pub Opens : Feed → List ℕ → (Result (Unit {0}) Refusal) → Type 0
 Opens x w r = (l : List ℕ) (k : List Bool) → of_verdict r ≡ place_refusal (fed_of x l w k).day.stage (fed_of x l w k).day.channel

@@ -12,7 +12,7 @@ ghost use Rattle.places.specs.Words.{servers_of};
 ghost use Rattle.day.specs.Read.{entry, end, line_read};
 ghost use Rattle.day.specs.Day.{on, atServers, stop, period_effect, add_effect, server_effect, call_effect, entry_effect, end_effect, last_line, beyond};
 ghost use Rattle.day.specs.Sheet.{input_refusal, finish};
-ghost use Rattle.dayline.specs.DayLine.{of_day_line};
+ghost use Rattle.dayline.specs.DayLine.{of_said, of_day_line};
 ghost use Rattle.feeding.specs.Fed.{whole_line};
 ghost use Rattle.feeding.specs.Moves.{ended, stopping, going, effect_move, frames_now, advancing, placed_move, line_move, step_move, steps_move};
 ghost use Rattle.feeding.specs.Steps.{on_move, Sized};
@@ -21,12 +21,12 @@ ghost use Rattle.feed.specs.Steps.{Fills, Made, Does, Keeps, Becomes, IsOf, Foll
 
 use dayline::DayLine;
 use group::{Links, State, Table};
-use periods::{Period, PeriodAnswer};
+use periods::Period;
 use places::Packed;
-use refusal::{Refusal, Verdict};
+use refusal::Refusal;
 use roles::Verb;
 use server::Server;
-use text::{Line, Written};
+use text::Line;
 
 // Which lines have come.
 #[derive(Clone, Copy)]
@@ -61,7 +61,7 @@ pub struct Taken {
 // the feed as it was, or for `begin` one that has printed no header.
 #[derive(Clone, Copy)]
 pub struct Step {
-    pub written: Written,
+    pub written: Result<usize, Refusal>,
     pub feed: Feed,
 }
 
@@ -190,25 +190,25 @@ fn refusal_length(number: u32, n: u8) -> usize
     text::width(number as u64) + text::width(n as u64) + 15
 }
 
-fn put_refusal(out: &mut [u8], number: u32, n: u8) -> Written
+fn put_refusal(out: &mut [u8], number: u32, n: u8) -> Result<usize, Refusal>
     ensures { Pieces out.old 0 (input_refusal number n) result out.new }
 {
-    let a = text::write_bytes(out, 0, b"line\t");
-    let b = a.then_number(out, number as u64);
-    let c = b.then_bytes(out, b"\trefused-");
-    let d = c.then_number(out, n as u64);
-    d.then_bytes(out, b"\n")
+    let line = text::write_bytes(out, 0, b"line\t")?;
+    let count = text::write_number(out, line, number as u64)?;
+    let word = text::write_bytes(out, count, b"\trefused-")?;
+    let refusal = text::write_number(out, word, n as u64)?;
+    text::write_bytes(out, refusal, b"\n")
 }
 
 // At the slice's start; 9.
-fn write_refusal(out: &mut [u8], number: u32, refusal: Refusal) -> Written
+fn write_refusal(out: &mut [u8], number: u32, refusal: Refusal) -> Result<usize, Refusal>
     ensures { Writes out.old 0 (input_refusal number (number_of refusal)) result out.new }
 {
     let n = refusal.number();
     if text::fits(out.len(), 0, refusal_length(number, n)) {
         put_refusal(out, number, n)
     } else {
-        Written::Refused(Refusal::Short)
+        Err(Refusal::Short)
     }
 }
 
@@ -216,16 +216,16 @@ fn write_refusal(out: &mut [u8], number: u32, refusal: Refusal) -> Written
 
 impl Feed {
     // The feed after a write, or the same one where that was refused.
-    fn put(self, after: Feed, written: Written) -> Step
+    fn put(self, after: Feed, written: Result<usize, Refusal>) -> Step
         ensures { Puts self after written result }
     {
         match written {
-            Written::To(n) => Step {
-                written: Written::To(n),
+            Ok(n) => Step {
+                written: Ok(n),
                 feed: after,
             },
-            Written::Refused(k) => Step {
-                written: Written::Refused(k),
+            Err(k) => Step {
+                written: Err(k),
                 feed: self,
             },
         }
@@ -273,7 +273,7 @@ impl Feed {
         next.frame = 0;
         next.period = period;
         Step {
-            written: Written::To(0),
+            written: Ok(0),
             feed: next,
         }
     }
@@ -284,8 +284,8 @@ impl Feed {
     {
         let table = Table::empty();
         match Period::of(period) {
-            PeriodAnswer::Is(p) => self.listed(words, whole, table, p),
-            PeriodAnswer::Refused(k) => self.stop(k, out),
+            Ok(p) => self.listed(words, whole, table, p),
+            Err(k) => self.stop(k, out),
         }
     }
 
@@ -321,8 +321,8 @@ impl Feed {
         let longer = added.table;
         let period = self.period;
         match verdict {
-            Verdict::Accepted => self.listed(words, whole, longer, period),
-            Verdict::Refused(k) => self.stop(k, out),
+            Ok(()) => self.listed(words, whole, longer, period),
+            Err(k) => self.stop(k, out),
         }
     }
 
@@ -342,8 +342,8 @@ impl Feed {
         let verdict = made.verdict;
         let table = made.table;
         match verdict {
-            Verdict::Accepted => self.add_to(words, whole, table, identity, priority, out),
-            Verdict::Refused(k) => self.stop(k, out),
+            Ok(()) => self.add_to(words, whole, table, identity, priority, out),
+            Err(k) => self.stop(k, out),
         }
     }
 
@@ -373,19 +373,15 @@ impl Feed {
 
 impl Feed {
     // 6, 7.
-    fn complete(self, words: &Packed) -> Verdict
+    fn complete(self, words: &Packed) -> Result<(), Refusal>
         ensures { of_verdict result ≡ fresh_refusal (record { servers = servers_of words.now }) (beat_limit self.period) }
     {
         let made = Table::of(places::servers_of(words));
-        let verdict = made.verdict;
-        let table = made.table;
-        match verdict {
-            Verdict::Accepted => self.opens(table),
-            Verdict::Refused(k) => Verdict::Refused(k),
-        }
+        made.verdict?;
+        self.opens(made.table)
     }
 
-    fn opens(self, table: Table) -> Verdict
+    fn opens(self, table: Table) -> Result<(), Refusal>
         ensures { of_verdict result ≡ fresh_refusal table (beat_limit self.period) }
     {
         let period = self.period;
@@ -394,15 +390,15 @@ impl Feed {
     }
 
     // Whether entries may come: 4, 6, 7.
-    fn open(self, words: &Packed) -> Verdict
+    fn open(self, words: &Packed) -> Result<(), Refusal>
         ensures { Opens self words.now result }
     {
         let stage = self.stage;
         match stage {
-            Stage::AtPeriod => Verdict::Refused(Refusal::Place),
+            Stage::AtPeriod => Err(Refusal::Place),
             Stage::AtServers => self.complete(words),
-            Stage::AtEntries => Verdict::Accepted,
-            Stage::AtClose => Verdict::Refused(Refusal::Place),
+            Stage::AtEntries => Ok(()),
+            Stage::AtClose => Err(Refusal::Place),
         }
     }
 
@@ -425,7 +421,7 @@ impl Feed {
         let ran = frames::run_within(words, whole, period, self.frame, time, out);
         let verdict = ran.verdict;
         match verdict {
-            Verdict::Accepted => {
+            Ok(()) => {
                 let next = Feed {
                     over: self.over,
                     number: self.number,
@@ -435,12 +431,12 @@ impl Feed {
                     period,
                 };
                 Step {
-                    written: Written::To(ran.written),
+                    written: Ok(ran.written),
                     feed: next,
                 }
             }
-            Verdict::Refused(k) => Step {
-                written: Written::Refused(k),
+            Err(k) => Step {
+                written: Err(k),
                 feed: self,
             },
         }
@@ -451,9 +447,9 @@ impl Feed {
         requires { (self.number ≤ last_line) × Made self.stage }
         ensures { RefusesCall self identity k out.old result out.new }
     {
-        if k.number() == 9 {
+        if k == Refusal::Short {
             Step {
-                written: Written::Refused(k),
+                written: Err(k),
                 feed: self,
             }
         } else {
@@ -477,11 +473,11 @@ impl Feed {
         let acted = verbs::act(words, whole, self.frame, verb, a, b, out);
         let verdict = acted.verdict;
         match verdict {
-            Verdict::Accepted => Step {
-                written: Written::To(acted.written),
+            Ok(()) => Step {
+                written: Ok(acted.written),
                 feed: self.turned(Stage::AtEntries),
             },
-            Verdict::Refused(k) => self.refuse_call(a, k, out),
+            Err(k) => self.refuse_call(a, k, out),
         }
     }
 
@@ -524,7 +520,7 @@ impl Feed {
             return self.advance(words, whole, time, out);
         }
         Step {
-            written: Written::To(0),
+            written: Ok(0),
             feed: self.turned(Stage::AtClose),
         }
     }
@@ -545,8 +541,8 @@ impl Feed {
     {
         let verdict = self.open(words);
         match verdict {
-            Verdict::Accepted => self.enter(words, whole, time, verb, a, b, out),
-            Verdict::Refused(k) => self.stop(k, out),
+            Ok(()) => self.enter(words, whole, time, verb, a, b, out),
+            Err(k) => self.stop(k, out),
         }
     }
 
@@ -557,8 +553,8 @@ impl Feed {
     {
         let verdict = self.open(words);
         match verdict {
-            Verdict::Accepted => self.end(words, whole, time, out),
-            Verdict::Refused(k) => self.stop(k, out),
+            Ok(()) => self.end(words, whole, time, out),
+            Err(k) => self.stop(k, out),
         }
     }
 }
@@ -566,28 +562,17 @@ impl Feed {
 // ---- a step
 
 // The refusal of a line beyond the last.
-fn beyond(line: DayLine) -> Refusal
+fn beyond(line: Result<DayLine, Refusal>) -> Refusal
     ensures { beyond (of_day_line line) ≡ stop (number_of result) }
 {
     match line {
-        DayLine::Wrong(k) => k,
-        DayLine::Period(_) => Refusal::Place,
-        DayLine::Server {
-            identity: _,
-            priority: _,
-        } => Refusal::Place,
-        DayLine::Entry {
-            time: _,
-            verb: _,
-            first: _,
-            second: _,
-        } => Refusal::Place,
-        DayLine::End(_) => Refusal::Place,
+        Ok(_) => Refusal::Place,
+        Err(k) => k,
     }
 }
 
 // What the first n bytes of a line say.
-fn read(line: &[u8], n: usize) -> DayLine
+fn read(line: &[u8], n: usize) -> Result<DayLine, Refusal>
     ensures { of_day_line result ≡ line_read (take n line.now) }
 {
     let end = present(line, n);
@@ -597,11 +582,10 @@ fn read(line: &[u8], n: usize) -> DayLine
 impl Feed {
     // A line of the first 65,535.
     fn perform(self, words: &mut Packed, whole: &mut Links, line: DayLine, out: &mut [u8]) -> Step
-        requires { (self.number ≤ last_line) × Sized (of_day_line line) }
-        ensures { Does self words.old whole.old (λ f c. placed_move f (length out.old) (of_day_line line)) out.old result words.new whole.new out.new }
+        requires { (self.number ≤ last_line) × Sized (of_said line) }
+        ensures { Does self words.old whole.old (λ f c. placed_move f (length out.old) (of_said line)) out.old result words.new whole.new out.new }
     {
         match line {
-            DayLine::Wrong(k) => self.stop(k, out),
             DayLine::Period(period) => self.set_period(words, whole, period, out),
             DayLine::Server { identity, priority } => {
                 self.add_server(words, whole, identity, priority, out)
@@ -617,14 +601,23 @@ impl Feed {
     }
 
     // A line.
-    fn go(self, words: &mut Packed, whole: &mut Links, line: DayLine, out: &mut [u8]) -> Step
+    fn go(
+        self,
+        words: &mut Packed,
+        whole: &mut Links,
+        line: Result<DayLine, Refusal>,
+        out: &mut [u8],
+    ) -> Step
         requires { Sized (of_day_line line) }
         ensures { Does self words.old whole.old (λ f c. line_move f (length out.old) (of_day_line line)) out.old result words.new whole.new out.new }
     {
         if self.number > Feed::LINES {
             return self.stop(beyond(line), out);
         }
-        self.perform(words, whole, line, out)
+        match line {
+            Ok(line) => self.perform(words, whole, line, out),
+            Err(k) => self.stop(k, out),
+        }
     }
 
     // What a whole line does, as far as the slice has room: as many frames as fit of those before
@@ -640,7 +633,7 @@ impl Feed {
     {
         if !self.waits(line) {
             return Step {
-                written: Written::To(0),
+                written: Ok(0),
                 feed: self,
             };
         }
@@ -655,7 +648,7 @@ impl Feed {
         line: &[u8; Feed::LINE],
         words: &mut Packed,
         whole: &mut Links,
-        read: DayLine,
+        read: Result<DayLine, Refusal>,
         n: usize,
         out: &mut [u8],
     ) -> Step
@@ -664,7 +657,7 @@ impl Feed {
     {
         if !self.waits(line) {
             return Step {
-                written: Written::To(n),
+                written: Ok(n),
                 feed: self,
             };
         }
@@ -672,12 +665,12 @@ impl Feed {
         let written = more.written;
         let next = more.feed;
         match written {
-            Written::To(m) => Step {
-                written: Written::To(n + m),
+            Ok(m) => Step {
+                written: Ok(n + m),
                 feed: next,
             },
-            Written::Refused(_) => Step {
-                written: Written::To(n),
+            Err(_) => Step {
+                written: Ok(n),
                 feed: next,
             },
         }
@@ -695,7 +688,7 @@ impl Feed {
     {
         if !self.waits(line) {
             return Step {
-                written: Written::To(0),
+                written: Ok(0),
                 feed: self,
             };
         }
@@ -704,9 +697,9 @@ impl Feed {
         let written = first.written;
         let next = first.feed;
         match written {
-            Written::To(n) => next.second(line, words, whole, read, n, out),
-            Written::Refused(k) => Step {
-                written: Written::Refused(k),
+            Ok(n) => next.second(line, words, whole, read, n, out),
+            Err(k) => Step {
+                written: Err(k),
                 feed: next,
             },
         }
@@ -729,7 +722,7 @@ impl Feed {
                 let mut next = self;
                 next.over = true;
                 Step {
-                    written: Written::To(0),
+                    written: Ok(0),
                     feed: next,
                 }
             }
@@ -743,7 +736,7 @@ impl Feed {
     {
         if self.over | is_whole(line, self.length) {
             return Step {
-                written: Written::To(0),
+                written: Ok(0),
                 feed: self,
             };
         }

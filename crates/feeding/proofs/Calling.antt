@@ -1,4 +1,5 @@
 -- Advances and verbs on the channel of a day. Assumes nothing.
+use Rattle.std.specs.Prelude.{Result, Ok, Err}
 use mathlib.Core.Bool.{Bool, true, false, ◌&&◌}
 use mathlib.Core.Path.{◌≡◌, refl, sym, ap, ◌∙◌}
 use mathlib.Core.List.{List, [], append-nil}
@@ -9,11 +10,8 @@ use lib.Dec.{ltb, leb, eqb}
 use lib.ListN.{length}
 use Rattle.lists.proofs.Cases.{equal, less, tested, on, chosen, other, by_choice, and_true}
 use Rattle.refusal.specs.declared.Refusal.{Refusal}
-use Rattle.refusal.specs.declared.Verdict.{Verdict}
-use Rattle.refusal.specs.declared.Verdict.TheVariants.{Accepted, Refused}
 use Rattle.refusal.specs.Answer.{Answer, refused, number_of, of_verdict}
 use Rattle.refusal.proofs.Answers.{number-some}
-use Rattle.text.specs.declared.Written.TheVariants as written
 use Rattle.text.specs.Write.{writing, wrote, Writes}
 use Rattle.text.proofs.Writing.{writes-to}
 use Rattle.roles.specs.declared.Role.{Role}
@@ -34,7 +32,7 @@ use Rattle.day.specs.Day.{go, on as during, atEntries, refusal, call_effect}
 use Rattle.feeding.specs.Moves.{frames_now}
 
 -- w does not fit, and a call that wrote nothing says 9
-pub writes-not : {d w d' : List ℕ} {k : Refusal} → length d < length w → number_of k ≡ 9 → d' ≡ d → Writes d 0 w (written.Refused k) d'
+pub writes-not : {d w d' : List ℕ} {k : Refusal} → length d < length w → number_of k ≡ 9 → d' ≡ d → Writes d 0 w (Err k) d'
 unfolding writing wrote
 writes-not {d} {w} h e s =
     let short : leb (0 + length w) (length d) ≡ false = lt-leb (0 + length w) (length d) (omega arith) in
@@ -42,51 +40,51 @@ writes-not {d} {w} h e s =
 
 -- ---- what a call gives
 
-module _ {c : State} {o : Outcome} {d : List ℕ} {v : Verdict} {n : ℕ} {x : State} {d' : List ℕ} (g : Gives c o d v n x d') where
+module _ {c : State} {o : Outcome} {d : List ℕ} {v : Result (Unit {0}) Refusal} {n : ℕ} {x : State} {d' : List ℕ} (g : Gives c o d v n x d') where
   number_is : {m : ℕ} → of_verdict v ≡ m → number_in o (length d) ≡ m
   number_is e = sym g.number ∙ e
 
   -- accepted: its lines fit
-  accepted-number : v ≡ Accepted → o.number ≡ 0
+  accepted-number : v ≡ Ok tt → o.number ≡ 0
   unfolding number_in
   accepted-number e =
       let z = number_is (ap of_verdict e) in
       on (tested (eqb o.number 0)) (λ t. eqb-true _ 0 t) (λ t. sym (other _ t) ∙ z)
 
-  accepted-fits : v ≡ Accepted → length o.lines ≤ length d
+  accepted-fits : v ≡ Ok tt → length o.lines ≤ length d
   accepted-fits e =
       on (less (length d) (length o.lines))
       (λ h. absurd (let z : 9 ≡ 0 = sym (is-short o (length d) (accepted-number e) h) ∙ number_is (ap of_verdict e) in omega arith))
       (λ h. h)
 
-  pub gives-written : v ≡ Accepted → Writes d 0 o.lines (written.To n) d'
+  pub gives-written : v ≡ Ok tt → Writes d 0 o.lines (Ok n) d'
   unfolding written_in slice_in
   gives-written e =
       let none : eqb (number_in o (length d)) 0 ≡ true = eq-eqb _ 0 (number_is (ap of_verdict e)) in
       writes-to (omega (arith, accepted-fits e)) (omega (arith, g.written ∙ chosen 0 none)) (g.slice ∙ chosen d none)
 
-  pub gives-channel : v ≡ Accepted → x ≡ o.channel
+  pub gives-channel : v ≡ Ok tt → x ≡ o.channel
   unfolding channel_in
   gives-channel e = g.channel ∙ chosen c (eq-eqb _ 0 (number_is (ap of_verdict e)))
 
   -- refused: nothing is written, and the channel is the same
-  pub gives_same : {k : Refusal} → v ≡ Refused k → d' ≡ d
+  pub gives_same : {k : Refusal} → v ≡ Err k → d' ≡ d
   unfolding slice_in
   gives_same {k} e = g.slice ∙ other _ (ne_eqb (number_in o (length d)) 0 (λ z. omega (arith, number_is (ap of_verdict e), number-some k)))
 
-  pub gives-kept : {k : Refusal} → v ≡ Refused k → x ≡ c
+  pub gives-kept : {k : Refusal} → v ≡ Err k → x ≡ c
   unfolding channel_in
   gives-kept {k} e = g.channel ∙ other _ (ne_eqb (number_in o (length d)) 0 (λ z. omega (arith, number_is (ap of_verdict e), number-some k)))
 
   -- by itself, or since its lines do not fit
-  pub gives_why : {k : Refusal} → v ≡ Refused k → (o.number ≡ 0) → (number_of k ≡ 9) × (length d < length o.lines)
+  pub gives_why : {k : Refusal} → v ≡ Err k → (o.number ≡ 0) → (number_of k ≡ 9) × (length d < length o.lines)
   gives_why {k} e z =
       let is = number_is (ap of_verdict e) in
       on (less (length d) (length o.lines))
       (λ h. (sym is ∙ is-short o (length d) z h, h))
       (λ h. absurd (omega (arith, sym is ∙ is-long o (length d) z h, number-some k)))
 
-  pub gives-own : {k : Refusal} → v ≡ Refused k → (o.number ≡ 0 → ⊥) → o.number ≡ number_of k
+  pub gives-own : {k : Refusal} → v ≡ Err k → (o.number ≡ 0 → ⊥) → o.number ≡ number_of k
   unfolding number_in
   gives-own {k} e h = sym (other _ (ne_eqb o.number 0 h)) ∙ number_is (ap of_verdict e)
 
@@ -102,7 +100,7 @@ none-fits (suc n) c room h e =
     (λ q. absurd (let z : suc (fitting n (advanced c) (room - length (frame_lines c))) ≡ 0 = sym (rw (le-leb (length (frame_lines c)) room q, fitting)) ∙ e in omega arith))
 
 -- towards a later time
-module _ (c : State) (t : ℕ) (later : c.frame < t) {d : List ℕ} {v : Verdict} {n : ℕ} {x : State} {d' : List ℕ}
+module _ (c : State) (t : ℕ) (later : c.frame < t) {d : List ℕ} {v : Result (Unit {0}) Refusal} {n : ℕ} {x : State} {d' : List ℕ}
     (g : Gives c (within_goes c t (length d)) d v n x d') where
   abbrev now : ℕ
   now = frames_now c (t - c.frame) (length d)
@@ -126,13 +124,13 @@ module _ (c : State) (t : ℕ) (later : c.frame < t) {d : List ℕ} {v : Verdict
       let yes : eqb (frames_within c t (length d)) 0 ≡ true = eq-eqb _ 0 e in
       (chosen 0 (and_true (lt-ltb c.frame t later) yes), chosen _ yes)
 
-  pub within-done : v ≡ Accepted → Writes d 0 (lines_by now c) (written.To n) d' × (x ≡ advanced_by now c)
+  pub within-done : v ≡ Ok tt → Writes d 0 (lines_by now c) (Ok n) d' × (x ≡ advanced_by now c)
   within-done e =
       on (equal (frames_within c t (length d)) 0)
       (λ z. absurd (let y : 9 ≡ 0 = sym (none-fit z).0 ∙ accepted-number g e in omega arith))
       (λ z. rw (some_fit z).1 (gives-written g e, gives-channel g e))
 
-  pub within-not : {k : Refusal} → v ≡ Refused k → Writes d 0 (lines_by now c) (written.Refused k) d'
+  pub within-not : {k : Refusal} → v ≡ Err k → Writes d 0 (lines_by now c) (Err k) d'
   unfolding lines_by
   within-not {k} e =
       on (equal (frames_within c t (length d)) 0)
@@ -199,19 +197,19 @@ module _ (c : State) (v : Verb) (a b : ℕ) where
   unfolding call_effect
   not-allowed h = rw (ne_eqb _ 0 h, call_effect)
 
-  module _ {d : List ℕ} {r : Verdict} {n : ℕ} {x : State} {d' : List ℕ} (g : Gives c (verb_outcome c v a b) d r n x d') where
-    pub call-allowed : r ≡ Accepted → call_effect [] c v a b ≡ go (verb_outcome c v a b).lines (during atEntries (verb_outcome c v a b).channel)
+  module _ {d : List ℕ} {r : Result (Unit {0}) Refusal} {n : ℕ} {x : State} {d' : List ℕ} (g : Gives c (verb_outcome c v a b) d r n x d') where
+    pub call-allowed : r ≡ Ok tt → call_effect [] c v a b ≡ go (verb_outcome c v a b).lines (during atEntries (verb_outcome c v a b).channel)
     call-allowed e = allowed (accepted-number g e)
 
     -- 9: the lines of an allowed verb do not fit
-    pub call-short : {k : Refusal} → r ≡ Refused k → number_of k ≡ 9 →
+    pub call-short : {k : Refusal} → r ≡ Err k → number_of k ≡ 9 →
         (call_effect [] c v a b ≡ go (verb_outcome c v a b).lines (during atEntries (verb_outcome c v a b).channel)) × (length d < length (verb_outcome c v a b).lines)
     call-short e q =
         on (equal (verb_refusal c v a b) 0)
         (λ z. (allowed z, (gives_why g e z).1))
         (λ z. absurd ((verb-number c v a b).0 (gives-own g e z ∙ q)))
 
-    pub call-refused : {k : Refusal} → r ≡ Refused k → (number_of k ≡ 9 → ⊥) → call_effect [] c v a b ≡ go (refusal c a (number_of k)) (during atEntries c)
+    pub call-refused : {k : Refusal} → r ≡ Err k → (number_of k ≡ 9 → ⊥) → call_effect [] c v a b ≡ go (refusal c a (number_of k)) (during atEntries c)
     call-refused {k} e q =
         on (equal (verb_refusal c v a b) 0)
         (λ z. absurd (q (gives_why g e z).0))

@@ -92,9 +92,6 @@ module _ {t : ℕ} {wet : Bool} {s₀ : Server} {hs₀ : List Heartbeat} {d₀ :
   finish v e = v.goes _ _ (rw e none)
 
 -- a count that falls
-pub replicate-all : (n : ℕ) (h : Heartbeat) → replicate n h ≡ replicate (n - 0) h
-replicate-all n h = let e : n ≡ n - 0 = omega arith in ap (λ (m : ℕ). replicate m h) e
-
 pub replicate_more : (n k : ℕ) (h : Heartbeat) → k < n → replicate (n - k) h ≡ (h ∷ []) ++ replicate (n - (k + 1)) h
 replicate_more n k h l = let e : n - k ≡ suc (n - (k + 1)) = omega arith in ap (λ (m : ℕ). replicate m h) e
 

@@ -11,3 +11,4 @@ pub mod Listing
 pub mod Loud
 pub mod Bound
 pub mod Faring
+pub mod Filled

@@ -1,5 +1,5 @@
 use Rattle.lists.proofs.Cases.{bit-small, tested, less, on, chosen, other}
--- The list of those who sent, and of all ranks. Assumes nothing.
+-- The list of those who sent. Assumes nothing.
 use mathlib.Core.Bool.{false}
 use mathlib.Core.Path.{◌≡◌, refl, sym, ap, ◌∙◌}
 use mathlib.Core.List.{List, [], ◌∷◌, ◌++◌, append-nil}
@@ -14,39 +14,11 @@ use lib.Seq.{take-set-le, take-suc-set, get_or-set_other, get_or-set_same}
 use Rattle.lists.specs.Choice.{choose}
 use Rattle.server.specs.declared.Server.{Server}
 use Rattle.server.specs.Server.{absent, sent_any}
-use Rattle.places.specs.Words.{rank_number, sending_number}
+use Rattle.places.specs.Words.{sending_number}
 use Rattle.frame.specs.Steps.{sent_below, Still, Ranked, Sends, Lists}
 use Rattle.places.specs.Steps.{Fits}
 use Rattle.frame.proofs.Lookup.{sent-number}
 use Rattle.frame.proofs.Still.{still-unsent}
-
--- the ranks of the first i places
-pub record Ranking (l : List Server) (v : List ℕ) (i : ℕ) : Type 0 where
-  pub room : length v ≡ 16
-  pub ranked : (k : ℕ) → k < i → (get_or v k 0 ≡ rank_number (get_or l k absent)) × (get_or v k 0 < 16777216)
-
-pub rank-begin : {l : List Server} {v : List ℕ} → length v ≡ 16 → Ranking l v 0
-rank-begin e = record { room = e; ranked = λ k h. absurd (omega arith) }
-
-pub rank-turn :
-    {l : List Server} {v : List ℕ} {i a : ℕ} → Ranking l v i → i < 16 → a ≡ rank_number (get_or l i absent) → (get_or l i absent).identity < 65536 →
-    (get_or l i absent).priority < 256 → Ranking l (set v i a) (i + 1)
-rank-turn {l} {v} {i} {a} r h e p q =
-    record {
-      room = length-set v i a ∙ r.room;
-      ranked =
-          λ k g.
-          ⊎_elim
-          (λ z. let o = get_or-set_other v i k a 0 (λ w. omega arith) in let f = r.ranked k z in (o ∙ f.0, omega (arith, o, f.1)))
-          (λ z.
-          let w : k ≡ i = omega arith in
-          let o = get_or-set_same v i a 0 (omega (arith, r.room)) in
-          rw w (o ∙ e, omega (arith, o, e, p, q)))
-          (less k i);
-    }
-
-pub rank-end : {l : List Server} {v : List ℕ} {i : ℕ} → Ranking l v i → 16 ≤ i → Ranked v l
-rank-end r h = record { ranks = λ k g. (r.ranked k (omega arith)).0; small = λ k g. (r.ranked k (omega arith)).1 }
 
 pub record Listing (l : List Server) (places sendings : List ℕ) (n i : ℕ) : Type 0 where
   pub room : length places ≡ 16

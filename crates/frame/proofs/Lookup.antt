@@ -1,5 +1,5 @@
 -- The look-up of the next sender. Assumes nothing.
-use mathlib.Core.Bool.{Bool, true, false, not, ◌&&◌, ◌||◌}
+use mathlib.Core.Bool.{Bool, true, false, not, ◌&&◌}
 use mathlib.Core.Path.{◌≡◌, refl, sym, ap, ap₂, subst, ◌∙◌}
 use mathlib.Core.List.Memᴰ
 use mathlib.Core.List.{List, [], ◌∷◌, ◌++◌, append-nil, append_assoc, Memᴰ}
@@ -9,10 +9,10 @@ use native.Mathlib.Omega.{arith}
 use native.Mathlib.Numerals.{add-one}
 use borrow.Author.Tests.{lt-ltb, le-ltb, eq-eqb, ne_eqb, eqb-true, eqb-false}
 use lib.Dec.{eqb, ltb}
-use lib.ListN.{length, take, drop, set, get_or, length-set, drop_of_length-le}
+use lib.ListN.{length, take, drop, set, get_or, length-set}
 use lib.Seq.{drop-cons, take-suc, take-set-le, take-suc-set, length-take-le, get_or-take, get_or-set_other, get_or-set_same}
 use Rattle.lists.specs.Choice.{choose}
-use Rattle.lists.proofs.Cases.{tested, less, equal, on, chosen, other, and_left, and_right, or_false, bit-small, bit-back}
+use Rattle.lists.proofs.Cases.{tested, less, equal, on, chosen, other, and_left, and_right, bit-small, bit-back}
 use Rattle.heartbeat.specs.declared.Heartbeat.{Heartbeat}
 use Rattle.heartbeat.specs.declared.Rank.{Rank}
 use Rattle.heartbeat.specs.Rank.{higher}
@@ -20,7 +20,7 @@ use Rattle.roles.specs.declared.Role.TheVariants.{Down}
 use Rattle.server.specs.declared.Server.{Server}
 use Rattle.server.specs.Server.{absent, rank_of, sent_by, sent_any}
 use Rattle.group.specs.declared.State.{State}
-use Rattle.frame.specs.Steps.{SenderList, sent_below, sender_of, Listed, Numbers, Lists, best_by, heard_of, best_in, Near, next_by, senders_by, sent_of, inbox_by}
+use Rattle.frame.specs.Steps.{SenderList, sent_below, sender_of, Listed, Numbers, Lists, best_by, heard_of, best_in, next_by, senders_by, sent_of, inbox_by}
 use Rattle.group.specs.Table.{most}
 use Rattle.group.specs.Hearing.{place, whole, no_place, hears_from, over, is_place, comes, next_among, next_sender, senders_after, sent_by_all, inbox}
 use Rattle.places.specs.Words.{rank_number, sending_number}
@@ -163,10 +163,6 @@ module _ {ranks : List ℕ} {last : ℕ} {l : List ℕ} {n : ℕ} where
             ∙ u.ends);
       }
 
-  pub look_end : {k best : ℕ} → Listed l n → Looking ranks last l n k best → n ≤ k → best ≡ best_in ranks last 16 (take n l)
-  look_end {k} {best} v u h =
-      ap (best_in ranks last best) (sym (drop_of_length-le (take n l) (let g : length (take n l) ≤ k = omega (arith, long v) in g))) ∙ u.ends
-
   -- one place more is looked at
   pub best_look :
       {k rank i : ℕ} {best next : Best} → Listed l n → Looking ranks last l n k best.place → IsBest ranks best → k < n → i ≡ get_or l k 0 → rank ≡ get_or ranks i 0 →
@@ -252,21 +248,10 @@ module _ {w : List Bool} {j : ℕ} {l : List ℕ} where
             (less x m);
       }
 
-  pub near_end : {near : List ℕ} {n m k : ℕ} → Listed l n → Nearing w j l near m k → k ≤ n → n ≤ k → Near w j (take n l) near m
-  near_end {near} {n} {m} {k} v u a b =
-      let same : k ≡ n = omega arith in
-      record {
-        listed = record { few = omega (arith, u.few, v.few); room = u.room; places = u.known };
-        these = u.these ∙ ap (λ (x : ℕ). heard_of w j (take x l)) same;
-      }
-
 -- ---- all that is heard, sender by sender
 
 abbrev pub inbox_after : SenderList → List Bool → ℕ → ℕ → ℕ → List Heartbeat
 inbox_after r w j n last = sent_of r (senders_by r w j n last)
-
-pub inbox-all : (r : SenderList) (w : List Bool) (j : ℕ) → inbox_by r w j ≡ inbox_after r w j (16 - 0) 16
-inbox-all r w j = refl
 
 module _ (r : SenderList) (w : List Bool) (j : ℕ) where
   pub heard-more :
@@ -458,33 +443,3 @@ unheard r w j v f =
     heard-none r w j 16 16 16
     (sym (best_unheard r.ranks w j 16 16 (take r.count r.places) (λ k h. ap (heard_by w j) (get_or-take r.count r.places k 0 (omega arith)) ∙ f k (omega arith))))
     (omega arith)
-
--- who hears: the first j places are done
-pub record Also (h : List Bool) (w : List Bool) (i j : ℕ) (r : List Bool) : Type 0 where
-  pub room : length r ≡ 16
-  pub before : (k : ℕ) → k < 16 → get_or r k false ≡ false → get_or h k false ≡ false
-  pub also : (k : ℕ) → k < j → get_or r k false ≡ false → heard_by w k i ≡ false
-
-pub also-turn : {h w : List Bool} {i j : ℕ} {r : List Bool} {x : Bool} → Also h w i j r → j < 16 → x ≡ (get_or h j false || heard_by w j i) → Also h w i (j + 1) (set r j x)
-also-turn {h} {w} {i} {j} {r} {x} v m e =
-    record {
-      room = length-set r j x ∙ v.room;
-      before =
-          λ k g z.
-          ⊎_elim
-          (λ q. rw q (here q z).0)
-          (λ q. v.before k g (sym (get_or-set_other r j k x false q) ∙ z))
-          (equal k j);
-      also =
-          λ k g z.
-          ⊎_elim
-          (λ q. rw q (here q z).1)
-          (λ q. v.also k (below k g q) (sym (get_or-set_other r j k x false q) ∙ z))
-          (equal k j);
-    }
-  where
-    here : {k : ℕ} → k ≡ j → get_or (set r j x) k false ≡ false → (get_or h j false ≡ false) × (heard_by w j i ≡ false)
-    here q z = or_false (get_or h j false) (heard_by w j i) (sym e ∙ sym (get_or-set_same r j x false (omega (arith, v.room))) ∙ ap (λ (n : ℕ). get_or (set r j x) n false) (sym q) ∙ z)
-
-    below : (k : ℕ) → k < j + 1 → (k ≡ j → ⊥) → k < j
-    below k g q = ⊎_elim (λ l. l) (λ l. absurd (q (omega arith))) (less k j)

@@ -3,7 +3,7 @@ use mathlib.Core.Bool.{false}
 use mathlib.Core.Path.{◌≡◌, refl, sym, subst, ◌∙◌}
 use mathlib.Core.List.{List}
 use mathlib.Core.Logic.{⊎_elim}
-use Prim.Native.Nat.{ℕ, zero, suc, ◌+◌, ◌≤◌, ◌<◌}
+use Prim.Native.Nat.{ℕ, zero, suc, ◌≤◌, ◌<◌}
 use native.Mathlib.Omega.{arith}
 use borrow.Author.Tests.{eq-eqb}
 use lib.ListN.{get_or}
@@ -21,13 +21,6 @@ use Rattle.frame.proofs.Still.{still-unsent}
 -- a loop over the places: none of the first i sent a greater number
 pub record Louder (l : List Server) (i r : ℕ) : Type 0 where
   pub so_far : (k : ℕ) → k < i → sending_number (get_or l k absent) ≤ r
-
-pub loud_begin : {l : List Server} {r : ℕ} → Louder l 0 r
-loud_begin = record { so_far = λ k h. absurd (omega arith) }
-
-pub loud_turn : {l : List Server} {i a b r : ℕ} → Louder l i a → b ≡ sending_number (get_or l i absent) → a ≤ r → b ≤ r → Louder l (i + 1) r
-loud_turn {l} {i} {a} {b} {r} v e p q =
-    record { so_far = λ k g. ⊎_elim (λ w. omega (arith, v.so_far k w)) (λ w. let y : k ≡ i = omega arith in rw y (omega arith)) (less k i) }
 
 pub loud_end : {l : List Server} {n i r : ℕ} → Still n l → Louder l i r → n ≤ i → Loud l r
 loud_end {l} {n} {i} {r} s v h =

@@ -3,7 +3,7 @@ use mathlib.Core.Bool.{Bool, true, false, not, ◌&&◌, ◌||◌}
 use mathlib.Core.Path.{◌≡◌, refl, sym, ap, ap₂, ◌∙◌}
 use mathlib.Core.Logic.{◌⊎◌, inr, ⊎_elim}
 use mathlib.Core.List.{List, [], ◌∷◌, ◌++◌}
-use Prim.Native.Nat.{ℕ, zero, suc, ◌+◌, ◌-◌, ◌≤◌, ◌<◌}
+use Prim.Native.Nat.{ℕ, zero, suc, ◌+◌, ◌≤◌, ◌<◌}
 use native.Mathlib.Omega.{arith}
 use borrow.Author.Tests.{ne_eqb, eqb-true, lt-leb, le-leb}
 use lib.Dec.{eqb, ltb, leb}
@@ -142,9 +142,6 @@ rests-sooner v h = record { rests = λ u a b. v.rests u a (omega arith) }
 pub record Resting (t : ℕ) (p : Period) (l : List Server) (i r : ℕ) : Type 0 where
   pub within : i ≤ 16
   pub so_far : (k : ℕ) → k < i → Rests t p (get_or l k absent) r
-
-pub rest-begin : {t : ℕ} {p : Period} {l : List Server} {r : ℕ} → Resting t p l 0 r
-rest-begin = record { within = omega arith; so_far = λ k h. absurd (omega arith) }
 
 pub rest-turn :
     {t : ℕ} {p : Period} {l : List Server} {i a b r : ℕ} → Resting t p l i a → i < 16 → Rests t p (get_or l i absent) b → r ≡ choose (leb a b) a b → Resting t p l (i + 1) r

@@ -1,13 +1,12 @@
 -- Servers that do nothing until a verb. Assumes nothing.
-use mathlib.Core.Bool.{Bool, true, false, not}
+use mathlib.Core.Bool.{Bool, true, false}
 use mathlib.Core.Path.{◌≡◌, refl, sym, ap, ap₂, subst, ◌∙◌}
-use mathlib.Core.Logic.{⊎_elim}
 use mathlib.Core.List.{List, [], ◌∷◌, ◌++◌}
 use Prim.Native.Nat.{ℕ, suc, ◌+◌, ◌-◌, ◌≤◌, ◌<◌}
 use native.Mathlib.Omega.{arith}
 use lib.ListN.{length, get_or, drop, length-drop}
 use lib.Seq.{get_or-drop}
-use Rattle.lists.proofs.Cases.{less, clash, not_so, not_some}
+use Rattle.lists.proofs.Cases.{clash, not_so}
 use Rattle.heartbeat.specs.declared.Heartbeat.{Heartbeat}
 use Rattle.roles.specs.declared.Role.{Role}
 use Rattle.roles.specs.declared.Role.TheVariants.{Down, Idle, Sync, Backup, Prospect, Primary}
@@ -25,25 +24,8 @@ use Rattle.group.specs.declared.State.{State}
 use Rattle.group.specs.Hearing.{inbox}
 use Rattle.group.specs.Frame.{heard_lines, timed_lines, hearing, turned, turn_lines, turns_lines}
 use Rattle.places.specs.Roles.{still_in, is_still}
-use Rattle.frame.specs.Steps.{Still, tick_lines, resting, Rests, AllRest}
-use Rattle.frame.proofs.Quiet.{clear_already, rests-down, rests-idle, rests-sync, Resting}
-
--- ---- the loop that finds the first place from which on all are still
-
-pub still-begin : {l : List Server} → Still 16 l
-still-begin = record { few = omega arith; still = λ i h g. absurd (omega arith) }
-
-pub still-less : {l : List Server} {n : ℕ} {b : Bool} → Still n l → 0 < n → b ≡ is_still (get_or l (n - 1) absent) → not b ≡ false → Still (n - 1) l
-still-less {l} {n} {b} v h e f =
-    record {
-      few = let few = v.few in omega arith;
-      still =
-          λ i g k.
-          ⊎_elim
-          (λ q. let w : i ≡ n - 1 = omega arith in rw w (sym e ∙ not_some b f))
-          (λ q. v.still i q k)
-          (less i n);
-    }
+use Rattle.frame.specs.Steps.{Still, tick_lines, resting, Rests}
+use Rattle.frame.proofs.Quiet.{clear_already, rests-down, rests-idle, rests-sync}
 
 -- ---- one such server
 
@@ -130,12 +112,7 @@ module _ (s : Server) (e : is_still s ≡ true) where
             ∙ (still-ticked t c.period h).1,
       )
 
--- ---- loops that end where the rest is still
-
-module _ {l : List Server} {n : ℕ} (v : Still n l) where
-  pub rest-early : {t : ℕ} {p : Period} {i r : ℕ} → Resting t p l i r → n ≤ i → AllRest t p l r
-  rest-early {t} {p} {i} {r} w h =
-      record { all = λ k g. ⊎_elim (λ q. w.so_far k q) (λ q. still-rests (get_or l k absent) (v.still k (omega arith) g) t p r) (less k i) }
+-- ---- a loop ends where the rest is still
 
 -- the lines of servers that are still are none
 none_said : (c : State) (t k : ℕ) (l : List Server) → 0 < t → ((i : ℕ) → i < length l → is_still (get_or l i absent) ≡ true) → turns_lines c t k l ≡ []

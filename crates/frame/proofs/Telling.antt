@@ -1,4 +1,5 @@
 -- Lines counted first, then written. Assumes nothing.
+use Rattle.std.specs.Prelude.{Ok, Err}
 use mathlib.Core.Bool.{Bool, true, false}
 use mathlib.Core.Path.{◌≡◌, refl, sym, ap, ◌∙◌}
 use mathlib.Core.Logic.{⊎_elim}
@@ -10,7 +11,6 @@ use lib.Dec.{leb}
 use lib.ListN.{length}
 use Rattle.lists.proofs.Cases.{less}
 use Rattle.refusal.specs.declared.Refusal.TheVariants.{Short}
-use Rattle.refusal.specs.declared.Verdict.TheVariants.{Accepted, Refused}
 use Rattle.group.specs.declared.State.{State}
 use Rattle.group.specs.Outcome.{Outcome}
 use Rattle.group.specs.Answers.{Gives}
@@ -34,14 +34,14 @@ module _ {wet : Bool} {d w d' : List ℕ} {r : ℕ} (p : Out wet d 0 w r d') whe
       (less (length d) (length w))
 
 module _ (c : State) (o : Outcome) (d : List ℕ) (accepted : o.number ≡ 0) {n : ℕ} {d₁ : List ℕ} (dry : Out false d 0 o.lines n d₁) where
-  pub too_short : length d₁ < n → Gives c o d (Refused Short) 0 c d₁
+  pub too_short : length d₁ < n → Gives c o d (Err Short) 0 c d₁
   too_short h =
       let e : d₁ ≡ d = dry.dry refl in
       rw e (gives-not c o d Short (is-short o (length d) accepted (beyond dry (rw e at h))))
 
   pub told-all :
       {m : ℕ} {x : State} {d₂ : List ℕ} → n ≤ length d₁ → Out true d₁ 0 o.lines m d₂ → x ≡ o.channel →
-      Gives c o d Accepted m x d₂
+      Gives c o d (Ok tt) m x d₂
   told-all {m} {x} {d₂} h q e =
       let same : d₁ ≡ d = dry.dry refl in
       let fit = within dry (rw same at h) in

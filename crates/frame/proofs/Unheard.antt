@@ -1,13 +1,11 @@
 -- Frames in which nobody hears what was sent: only timers run. Assumes nothing.
-use mathlib.Core.Bool.{Bool, true, false}
+use mathlib.Core.Bool.{Bool, true}
 use mathlib.Core.Path.{◌≡◌, refl, sym, ap, ap₂, subst, ◌∙◌}
-use mathlib.Core.Logic.{⊎_elim}
 use mathlib.Core.List.{List, [], ◌∷◌, ◌++◌}
 use Prim.Native.Nat.{ℕ, zero, suc, ◌+◌, ◌≤◌, ◌<◌}
 use native.Mathlib.Omega.{arith}
 use lib.ListN.{length, get_or}
 use Rattle.lists.specs.Lists.{map_from}
-use Rattle.lists.proofs.Cases.{less}
 use Rattle.heartbeat.specs.declared.Heartbeat.{Heartbeat}
 use Rattle.server.specs.declared.Server.{Server}
 use Rattle.server.specs.Server.{absent, cleared}
@@ -17,11 +15,8 @@ use Rattle.group.specs.Hearing.{inbox}
 use Rattle.server.specs.Hearing.{heard_all}
 use Rattle.group.specs.Frame.{heard_lines, timed_lines, hearing, turned, turn_lines, turns_lines, advanced, frame_lines}
 use Rattle.places.specs.Roles.{is_still}
-use Rattle.frame.specs.Steps.{Out, Deaf, clearing, Still, Ran, Runs, ticked, tick_lines, TicksAll}
+use Rattle.frame.specs.Steps.{Out, clearing, Still, Ran, Runs, ticked, tick_lines, TicksAll}
 use Rattle.frame.proofs.Still.{still_clear}
-
-pub deaf-more : {h : List Bool} {n : ℕ} → Deaf h n → get_or h n false ≡ false → Deaf h (n + 1)
-deaf-more {h} {n} v e = record { none = λ j g. ⊎_elim (λ l. v.none j l) (λ l. let z : j ≡ n = omega arith in rw z e) (less j n) }
 
 -- what a place has after the map
 at-cleared : (k i : ℕ) (l : List Server) → i < length l → get_or (map_from k clearing l) i absent ≡ cleared (get_or l i absent)

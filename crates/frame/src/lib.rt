@@ -20,6 +20,7 @@ use periods::Period;
 use places::{Best, Packed};
 use roles::{Event, Role, Said, Word};
 use server::Server;
+use std::array;
 
 // The lines of an event, written or only counted.
 fn say_event(out: &mut [u8], wet: bool, at: usize, frame: u32, identity: u16, event: Event) -> usize
@@ -68,12 +69,10 @@ fn hear_beats(
 {
     let mut now = s;
     let mut r = at;
-    let mut k = 0;
-    while k < n {
+    for _ in 0..n {
         let t = hear_one(now, frame, h, out, wet, r);
         now = t.server;
         r = t.at;
-        k += 1;
     }
     Told { server: now, at: r }
 }
@@ -171,14 +170,7 @@ fn run_due(s: Server, frame: u32, period: Period, out: &mut [u8], wet: bool, at:
 fn ranks_of(words: &Packed) -> [u32; Table::SERVERS]
     ensures { Ranked result (servers_of words.now) }
 {
-    let mut ranks: [u32; Table::SERVERS] = [0; Table::SERVERS];
-    let mut i: usize = 0;
-    while i < Table::SERVERS {
-        let rank = places::rank_number(places::server(words, i));
-        ranks[i] = rank;
-        i += 1;
-    }
-    ranks
+    array::from_fn(|i| places::rank_number(places::server(words, i)))
 }
 
 // ---- who does nothing until a verb
@@ -187,14 +179,12 @@ fn ranks_of(words: &Packed) -> [u32; Table::SERVERS]
 fn still_from(words: &Packed) -> usize
     ensures { Still result (servers_of words.now) }
 {
-    let mut n: usize = Table::SERVERS;
-    while n > 0 {
-        if !places::is_still(places::server(words, n - 1)) {
-            return n;
+    for i in (0..Table::SERVERS).rev() {
+        if !places::is_still(places::server(words, i)) {
+            return i + 1;
         }
-        n -= 1;
     }
-    n
+    0
 }
 
 // ---- who is heard next
@@ -217,13 +207,11 @@ fn list_senders(
     ensures { Sends (servers_of words.now) listed.new sendings.new result }
 {
     let mut count: usize = 0;
-    let mut i: usize = 0;
-    while i < n {
+    for i in 0..n {
         let sending = places::sending_number(places::server(words, i));
         sendings[i] = sending;
         listed[count] = i;
         count += one_if(sending);
-        i += 1;
     }
     count
 }
@@ -264,12 +252,9 @@ fn list_heard(
     ensures { Near whole.now j (take count listed.now) near.new result }
 {
     let mut m: usize = 0;
-    let mut k: usize = 0;
-    while k < count {
-        let i = listed[k];
+    for &i in &listed[..count] {
         near[m] = i;
         m += one_for(places::hears(whole, i, j));
-        k += 1;
     }
     m
 }
@@ -286,12 +271,8 @@ fn next_sender(
 {
     let under = places::rank_under(ranks, last);
     let mut best = Best::none();
-    let mut k: usize = 0;
-    while k < m {
-        let i = near[k];
-        let next = best.or(under, ranks[i], i);
-        best = next;
-        k += 1;
+    for &i in &near[..m] {
+        best = best.or(under, ranks[i], i);
     }
     best.place
 }
@@ -331,15 +312,9 @@ fn only_higher(
     requires { Listed near.now m }
     ensures { result ≡ every (higher_at ranks.now sendings.now own) (take m near.now) }
 {
-    let mut k: usize = 0;
-    while k < m {
-        let i = near[k];
-        if !higher_beats(own, ranks[i], sendings[i]) {
-            return false;
-        }
-        k += 1;
-    }
-    true
+    near[..m]
+        .iter()
+        .all(|&i| higher_beats(own, ranks[i], sendings[i]))
 }
 
 // A backup of this rank that has heard in this frame, where all that it hears are such senders.
@@ -411,8 +386,7 @@ fn hear_several(
     let mut now = s;
     let mut r = at;
     let mut last: usize = Table::SERVERS;
-    let mut k: usize = 0;
-    while k < Table::SERVERS {
+    for _ in 0..Table::SERVERS {
         let i = next_sender(&near, ranks, m, last);
         if i >= Table::SERVERS {
             return Told { server: now, at: r };
@@ -424,7 +398,6 @@ fn hear_several(
         now = t.server;
         r = t.at;
         last = i;
-        k += 1;
     }
     Told { server: now, at: r }
 }
@@ -529,13 +502,7 @@ fn hear_also(heard: [bool; Table::SERVERS], whole: &Links, i: usize) -> [bool; T
     requires { i < most }
     ensures { HeardAlso heard whole.now i result }
 {
-    let mut next = heard;
-    let mut j: usize = 0;
-    while j < Table::SERVERS {
-        next[j] = heard[j] | places::hears(whole, i, j);
-        j += 1;
-    }
-    next
+    array::from_fn(|j| heard[j] | places::hears(whole, i, j))
 }
 
 // Which places hear somebody.
@@ -544,11 +511,9 @@ fn hearers(listed: &[usize; Table::SERVERS], whole: &Links, count: usize) -> [bo
     ensures { Hearers listed.now whole.now count result }
 {
     let mut heard = [false; Table::SERVERS];
-    let mut k: usize = 0;
-    while k < count {
-        let more = hear_also(heard, whole, listed[k]);
+    for &i in &listed[..count] {
+        let more = hear_also(heard, whole, i);
         heard = more;
-        k += 1;
     }
     heard
 }
@@ -640,16 +605,12 @@ fn turned(
     let frame = before + 1;
     let mut next = servers;
     let mut r = at;
-    let mut j: usize = 0;
-    while j < n {
-        let s = servers[j];
+    for (j, &s) in servers[..n].iter().enumerate() {
         let t = turn_of(
             listed, ranks, sendings, whole, heard, count, frame, period, j, s, out, wet, r,
         );
-        let after = t.server;
-        next[j] = after;
+        next[j] = t.server;
         r = t.at;
-        j += 1;
     }
     AfterFrame {
         servers: next,
@@ -723,10 +684,8 @@ fn tick_all(
 {
     let frame = before + 1;
     let mut r = at;
-    let mut j: usize = 0;
-    while j < n {
+    for j in 0..n {
         r = tick_at(words, j, period, frame, out, wet, r);
-        j += 1;
     }
     r
 }
@@ -735,14 +694,7 @@ fn tick_all(
 fn nobody_hears(heard: &[bool; Table::SERVERS]) -> bool
     ensures { result ≡ Bool.true → Deaf heard.now most }
 {
-    let mut j: usize = 0;
-    while j < Table::SERVERS {
-        if heard[j] {
-            return false;
-        }
-        j += 1;
-    }
-    true
+    heard.iter().all(|&hears| !hears)
 }
 
 // Nothing sent at place j.
@@ -758,10 +710,8 @@ fn clear_all(words: &mut Packed, n: usize)
     requires { (length words.old ≡ packed) × Still n (servers_of words.old) }
     ensures { Keeps words.old words.new × (servers_of words.new ≡ map_from 0 clearing (servers_of words.old)) }
 {
-    let mut j: usize = 0;
-    while j < n {
+    for j in 0..n {
         clear_at(words, j);
-        j += 1;
     }
 }
 
@@ -794,11 +744,9 @@ fn loudest(words: &Packed, n: usize) -> u32
     ensures { Loud (servers_of words.now) result }
 {
     let mut most: u32 = 0;
-    let mut i: usize = 0;
-    while i < n {
+    for i in 0..n {
         let sending = places::sending_number(places::server(words, i));
         most = greater(most, sending);
-        i += 1;
     }
     most
 }

@@ -1,17 +1,17 @@
 -- Beats of a calm group, written one after the other. Assumes nothing.
-use mathlib.Core.Bool.{Bool, true, false, not, ◌&&◌, ◌||◌}
+use mathlib.Core.Bool.{Bool, true, false, ◌&&◌, ◌||◌}
 use mathlib.Core.Path.{◌≡◌, refl, sym, ap, ◌∙◌}
 use mathlib.Core.Logic.{inl, inr}
 use mathlib.Core.List.{List, ◌++◌, append-nil, append_assoc}
 use Prim.Native.Nat.{ℕ, zero, suc, ◌+◌, ◌-◌, ◌*◌, ◌≤◌, ◌<◌}
 use native.Mathlib.Omega.{arith}
-use borrow.Author.Tests.{leb-true, ltb-true, ne_eqb}
-use lib.Dec.{ltb, leb, eqb}
+use borrow.Author.Tests.{leb-true, ltb-true}
+use lib.Dec.{ltb, leb}
 use lib.ListN.{length, get_or, length-append}
 use Rattle.lists.specs.Lists.{map_from}
 use Rattle.lists.specs.Splice.{splice}
 use Rattle.lists.proofs.Splicing.{splice-none}
-use Rattle.lists.proofs.Cases.{less, on, tested, clash, and_true, fst_true, snd_true, or-true}
+use Rattle.lists.proofs.Cases.{on, clash, fst_true, snd_true, or-true}
 use Rattle.roles.specs.declared.Role.{Role}
 use Rattle.roles.specs.declared.Role.TheVariants.{Down, Idle, Sync, Backup, Prospect, Primary}
 use Rattle.roles.specs.declared.Said.TheVariants.{One}
@@ -23,13 +23,12 @@ use Rattle.server.specs.Server.{absent}
 use Rattle.roles.specs.Words.{word_bytes}
 use Rattle.lines.specs.Lines.{lines_of, Says}
 use Rattle.lines.proofs.Pieces.{line-long}
-use Rattle.group.specs.Hearing.{link_of}
 use Rattle.group.specs.Advance.{lines_by}
 use Rattle.frames.specs.declared.Pulse.{Pulse}
 use Rattle.places.specs.Roles.{is_primary}
 use Rattle.frame.specs.Answers.{state_of}
 use Rattle.frame.specs.Steps.{Loud, NotDue}
-use Rattle.frames.specs.Steps.{pulsed, Waits, AllWait, Calm, beat_lines, Beats, Stretches}
+use Rattle.frames.specs.Steps.{pulsed, AllWait, Calm, beat_lines, Beats, Stretches}
 use Rattle.frame.proofs.Writing.{chain, out_as, start, says-out, after-fits}
 use Rattle.frame.proofs.Quiet.{due-before, due-from, unsent}
 use Rattle.frame.proofs.Loud.{loud_quiet}
@@ -51,17 +50,6 @@ primary-so Sync e = absurd (clash e refl)
 primary-so Backup e = absurd (clash e refl)
 primary-so Prospect e = absurd (clash e refl)
 primary-so Primary e = refl
-
-pub waits-more :
-    (p : Period) (t f : ℕ) (l : List Server) (w : List Bool) (b : ℕ) {i : ℕ} {wait : Bool} → AllWait l w p b t f i → (wait ≡ true → Waits p (get_or w (link_of b i) false) t f (get_or l i absent)) →
-    (not wait && not (eqb i b)) ≡ false → AllWait l w p b t f (i + 1)
-waits-more p t f l w b {i} {wait} v q e k h n =
-    on (less k i)
-    (λ g. v k g n)
-    (λ g. let z : k ≡ i = omega arith in rw z (q (waiting (λ y. n (z ∙ y)))))
-  where
-    waiting : (i ≡ b → ⊥) → wait ≡ true
-    waiting y = on (tested wait) (λ x. x) (λ x. absurd (clash (and_true (ap not x) (ap not (ne_eqb i b y))) e))
 
 pub calm-is :
     (p : Period) (w : List Bool) (l : List Server) (b t : ℕ) → Loud l 0 → b < 16 → is_primary (get_or l b absent).role ≡ true →

@@ -1,4 +1,5 @@
 -- As many frames as fit. Assumes nothing.
+use Rattle.std.specs.Prelude.{Ok, Err}
 use mathlib.Core.Bool.{Bool, true, false, not, ◌&&◌}
 use mathlib.Core.Path.{◌≡◌, refl, sym, ap, ap₂, subst, ◌∙◌}
 use mathlib.Core.Logic.{◌⊎◌, inl, inr, ⊎_elim}
@@ -14,7 +15,6 @@ use Rattle.lists.specs.Splice.{splice}
 use Rattle.lists.proofs.Cases.{less, equal, on, tested, chosen, other, clash, and_true, and_right, fst_true, snd_true, and_left, not_so, not_some}
 use Rattle.lists.proofs.Splicing.{splice-none}
 use Rattle.refusal.specs.declared.Refusal.TheVariants.{Short}
-use Rattle.refusal.specs.declared.Verdict.TheVariants.{Accepted, Refused}
 use Rattle.periods.specs.declared.Period.{Period}
 use Rattle.server.specs.declared.Server.{Server}
 use Rattle.group.specs.declared.State.{State}
@@ -289,7 +289,7 @@ module _ (c : State) (target : ℕ) {d : List ℕ} {r : Stepped} {d' : List ℕ}
   frame-within = ap (λ (x : State). x.frame) v.channel ∙ frame-after frames c
 
   -- there are frames to go and none fits
-  pub within-short : (ltb c.frame target && eqb r.frame c.frame) ≡ true → Gives c (within_goes c target (length d)) d (Refused Short) 0 (moved_to c c.frame r.servers) d'
+  pub within-short : (ltb c.frame target && eqb r.frame c.frame) ≡ true → Gives c (within_goes c target (length d)) d (Err Short) 0 (moved_to c c.frame r.servers) d'
   unfolding lines_by advanced_by
   within-short e =
       let same = no_frame c.frame target r.frame e in
@@ -298,7 +298,7 @@ module _ (c : State) (target : ℕ) {d : List ℕ} {r : Stepped} {d' : List ℕ}
       let stays : moved_to c c.frame r.servers ≡ c = ap (λ (t : ℕ). moved_to c t r.servers) (sym same) ∙ v.channel ∙ ap (λ (k : ℕ). advanced_by k c) none in
       rw kept (rw stays (gives-refused c (within_goes c target (length d)) d Short (chosen 0 (and_true (fst_true (ltb c.frame target) _ e) (eq-eqb frames 0 none)))))
 
-  pub within-fits : (ltb c.frame target && eqb r.frame c.frame) ≡ false → Gives c (within_goes c target (length d)) d Accepted r.at (moved_to c r.frame r.servers) d'
+  pub within-fits : (ltb c.frame target && eqb r.frame c.frame) ≡ false → Gives c (within_goes c target (length d)) d (Ok tt) r.at (moved_to c r.frame r.servers) d'
   within-fits e =
       let free : (ltb c.frame target && eqb frames 0) ≡ false = ap (λ (b : Bool). ltb c.frame target && b) same ∙ e in
       gives_so c (within_goes c target (length d)) d (is-long (within_goes c target (length d)) (length d) (other 9 free) v.fits)
@@ -314,7 +314,7 @@ module _ (c : State) (target : ℕ) {d : List ℕ} {r : Stepped} {d' : List ℕ}
 -- up to a later target nothing happens: all frames fit, and nothing is written
 pub quiet-fits :
     (t : ℕ) (p : Period) (w : List ℕ) (l : List Bool) (target : ℕ) (d : List ℕ) → t < target → Jumps p (servers_of w) t target target →
-    Gives (state_of t p (servers_of w) l) (within_goes (state_of t p (servers_of w) l) target (length d)) d Accepted 0 (state_of target p (servers_of w) l) d
+    Gives (state_of t p (servers_of w) l) (within_goes (state_of t p (servers_of w) l) target (length d)) d (Ok tt) 0 (state_of target p (servers_of w) l) d
 quiet-fits t p w l target d h j =
     let c = state_of t p (servers_of w) l in
     let g = stretch_jump c j {d = d} {at = 0} (omega arith) h (omega arith) in

@@ -3,3 +3,4 @@ pub mod Fitting
 pub mod Pulsing
 pub mod Beating
 pub mod Moving
+pub mod Below

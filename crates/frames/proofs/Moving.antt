@@ -1,13 +1,12 @@
 -- What becomes of the numbers in frames one after another. Assumes nothing.
-use mathlib.Core.Bool.{true, false}
+use Rattle.std.specs.Prelude.{Result, Ok, Err}
+use mathlib.Core.Bool.{true}
 use mathlib.Core.Path.{◌≡◌, refl, ap, ◌∙◌}
 use mathlib.Core.List.{List}
 use Prim.Native.Nat.{ℕ, ◌+◌, ◌≤◌, ◌<◌}
 use native.Mathlib.Omega.{arith}
 use lib.ListN.{length}
 use Rattle.refusal.specs.declared.Refusal.{Refusal}
-use Rattle.refusal.specs.declared.Verdict.{Verdict}
-use Rattle.refusal.specs.declared.Verdict.TheVariants.{Accepted, Refused}
 use Rattle.group.specs.declared.State.{State}
 use Rattle.group.specs.Outcome.{Outcome, channel_in}
 use Rattle.group.specs.Answers.{Gives}
@@ -43,9 +42,9 @@ module _ {c : State} {w d : List ℕ} {at : ℕ} {r : Fared} {w' d' : List ℕ} 
 -- ---- the answer
 
 pub answered :
-    {c : State} {o : Outcome} {d : List ℕ} {v : Verdict} {n t : ℕ} {w w' d' : List ℕ} → Gives c o d v n (moved_to c t (servers_of w')) d' → Keeps w w' →
+    {c : State} {o : Outcome} {d : List ℕ} {v : Result (Unit {0}) Refusal} {n t : ℕ} {w w' d' : List ℕ} → Gives c o d v n (moved_to c t (servers_of w')) d' → Keeps w w' →
     Becomes w (channel_in c o (length d)).servers w'
 answered g k = becomes k (ap (λ (x : State). x.servers) g.channel)
 
-pub accepted-not : {A : Type 0} (k : Refusal) → Accepted ≡ Refused k → A
+pub accepted-not : {A : Type 0} (k : Refusal) → ◌≡◌ {A = Result (Unit {0}) Refusal} (Ok tt) (Err k) → A
 accepted-not k e = let z : ◌≡◌ {A = ℕ} 0 1 = cc in absurd (omega arith)

@@ -1,7 +1,6 @@
 -- What an advance of the servers answers.
-use Rattle.std.specs.Prelude.{List, ◌≡◌, ℕ, length}
+use Rattle.std.specs.Prelude.{List, ◌≡◌, ℕ, length, Err}
 use Rattle.refusal.specs.declared.Refusal.{Refusal}
-use Rattle.refusal.specs.declared.Verdict.TheVariants.{Refused}
 use Rattle.group.specs.declared.State.{State}
 use Rattle.group.specs.Outcome.{Outcome, channel_in}
 use Rattle.group.specs.Answers.{Gives}
@@ -16,11 +15,11 @@ pub record Advances (c : State) (o : Outcome) (w d : List ℕ) (r : Advance) (d'
   pub gives : Gives c o d r.verdict r.written (moved_to c r.frame (servers_of r.words)) d'
   pub words : Becomes w (channel_in c o (length d)).servers r.words
   -- where it is refused, each number is as it was
-  pub same : (k : Refusal) → r.verdict ≡ Refused k → r.words ≡ w
+  pub same : (k : Refusal) → r.verdict ≡ Err k → r.words ≡ w
 
 -- the same in place: w' are the numbers afterwards
 pub record AdvancesIn (c : State) (o : Outcome) (w d : List ℕ) (r : Ran) (w' d' : List ℕ) : Type 0 where
   pub gives : Gives c o d r.verdict r.written (moved_to c r.frame (servers_of w')) d'
   pub words : Becomes w (channel_in c o (length d)).servers w'
   -- where it is refused, each lent number is as it was
-  pub same : (k : Refusal) → r.verdict ≡ Refused k → w' ≡ w
+  pub same : (k : Refusal) → r.verdict ≡ Err k → w' ≡ w

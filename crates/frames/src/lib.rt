@@ -19,7 +19,7 @@ ghost use Rattle.group.specs.Table.{most};
 use group::{Links, Table};
 use periods::Period;
 use places::Packed;
-use refusal::{Refusal, Verdict};
+use refusal::Refusal;
 use roles::{Role, Said, Word};
 use server::Server;
 
@@ -68,11 +68,9 @@ fn next_due(words: &Packed, period: Period, frame: u32) -> u32
     ensures { AllRest frame period (servers_of words.now) result }
 {
     let mut first: u32 = u32::MAX;
-    let mut i: usize = 0;
-    while i < Table::SERVERS {
+    for i in 0..Table::SERVERS {
         let s = places::server(words, i);
         first = earlier(first, wakes(s, period, frame));
-        i += 1;
     }
     first
 }
@@ -103,14 +101,7 @@ fn sent_none(words: &Packed, i: usize) -> bool
 fn nobody_sent(words: &Packed) -> bool
     ensures { result ≡ Bool.true → Loud (servers_of words.now) 0 }
 {
-    let mut i: usize = 0;
-    while i < Table::SERVERS {
-        if !sent_none(words, i) {
-            return false;
-        }
-        i += 1;
-    }
-    true
+    (0..Table::SERVERS).all(|i| sent_none(words, i))
 }
 
 // ---- many frames
@@ -242,16 +233,9 @@ fn play_fitting(
 fn first_primary(words: &Packed) -> usize
     ensures { result < most → is_primary (get_or (servers_of words.now) result absent).role ≡ Bool.true }
 {
-    let mut i: usize = 0;
-    while i < Table::SERVERS {
-        let s = places::server(words, i);
-        let role = s.role;
-        if places::is_primary(role) {
-            return i;
-        }
-        i += 1;
-    }
-    i
+    (0..Table::SERVERS)
+        .find(|&i| places::is_primary(places::server(words, i).role))
+        .unwrap_or(Table::SERVERS)
 }
 
 // A timer is not due after the present frame and up to the frame `next`.
@@ -279,16 +263,11 @@ fn all_wait(words: &Packed, whole: &Links, period: Period, b: usize, frame: u32,
     requires { b < most }
     ensures { result ≡ Bool.true → AllWait (servers_of words.now) whole.now period b frame next most }
 {
-    let mut i: usize = 0;
-    while i < Table::SERVERS {
+    (0..Table::SERVERS).all(|i| {
         let s = places::server(words, i);
-        let wait = waits(s, whole[Table::SERVERS * b + i], period, frame, next);
-        if !wait & (i != b) {
-            return false;
-        }
-        i += 1;
-    }
-    true
+        let link = whole[Table::SERVERS * b + i];
+        waits(s, link, period, frame, next) | (i == b)
+    })
 }
 
 // The frame of the next beat.
@@ -369,10 +348,8 @@ fn settle(words: &mut Packed, b: usize, last: u32)
     requires { (length words.old ≡ packed) × ((last < last_frame) × (b < most)) }
     ensures { Keeps words.old words.new × (servers_of words.new ≡ map_from 0 (pulsed b last) (servers_of words.old)) }
 {
-    let mut i: usize = 0;
-    while i < Table::SERVERS {
+    for i in 0..Table::SERVERS {
         settle_at(words, i, b, last);
-        i += 1;
     }
 }
 
@@ -467,7 +444,7 @@ fn play_within(
 // numbers.
 #[derive(Clone, Copy)]
 pub struct Advance {
-    pub verdict: Verdict,
+    pub verdict: Result<(), Refusal>,
     pub written: usize,
     pub frame: u32,
     pub words: Packed,
@@ -488,7 +465,7 @@ pub fn run(
     let counted = count_all(words, whole, period, frame, target, out);
     if counted > out.len() {
         return Advance {
-            verdict: Verdict::Refused(Refusal::Short),
+            verdict: Err(Refusal::Short),
             written: 0,
             frame,
             words,
@@ -497,7 +474,7 @@ pub fn run(
     let mut next = words;
     let played = play_within(&mut next, words, whole, period, frame, target, out);
     Advance {
-        verdict: Verdict::Accepted,
+        verdict: Ok(()),
         written: played.at,
         frame: played.frame,
         words: next,
@@ -508,7 +485,7 @@ pub fn run(
 // same numbers.
 #[derive(Clone, Copy)]
 pub struct Ran {
-    pub verdict: Verdict,
+    pub verdict: Result<(), Refusal>,
     pub written: usize,
     pub frame: u32,
 }
@@ -531,16 +508,10 @@ fn rests(s: Server, period: Period, frame: u32, target: u32) -> bool
 fn all_quiet(words: &Packed, period: Period, frame: u32, target: u32) -> bool
     ensures { result ≡ Bool.true → Loud (servers_of words.now) 0 × AllRest frame period (servers_of words.now) (target + 1) }
 {
-    let mut i: usize = 0;
-    while i < Table::SERVERS {
+    (0..Table::SERVERS).all(|i| {
         let s = places::server(words, i);
-        let quiet = sent_none(words, i) & rests(s, period, frame, target);
-        if !quiet {
-            return false;
-        }
-        i += 1;
-    }
-    true
+        sent_none(words, i) & rests(s, period, frame, target)
+    })
 }
 
 // Whether nothing happens up to the target, which is later.
@@ -568,7 +539,7 @@ pub fn run_within(
 {
     if nothing_until(words, period, frame, target) {
         return Ran {
-            verdict: Verdict::Accepted,
+            verdict: Ok(()),
             written: 0,
             frame: target,
         };
@@ -577,13 +548,13 @@ pub fn run_within(
     let played = play_within(words, held, whole, period, frame, target, out);
     if (frame < target) & (played.frame == frame) {
         return Ran {
-            verdict: Verdict::Refused(Refusal::Short),
+            verdict: Err(Refusal::Short),
             written: 0,
             frame,
         };
     }
     Ran {
-        verdict: Verdict::Accepted,
+        verdict: Ok(()),
         written: played.at,
         frame: played.frame,
     }

@@ -9,7 +9,7 @@ use lib.Dec.{eqb, leb}
 use lib.ListN.{get_or}
 use Rattle.lists.proofs.Cases.{tested, chosen, other, and_true, and_left, and_right}
 use Rattle.refusal.specs.declared.Refusal.{Refusal}
-use Rattle.refusal.specs.declared.Verdict.TheVariants as verdict
+use Rattle.std.specs.Prelude.{Ok, Err}
 use Rattle.refusal.specs.Answer.{Answer, accepted, refused, number_of, of_verdict}
 use Rattle.refusal.proofs.Answers.{number-some}
 use Rattle.server.specs.declared.Made.{Made}
@@ -24,7 +24,7 @@ in_range n = leb least_period n && leb n greatest_period
 
 module _ (i p n : ℕ) (m : Made) (makes : Makes i p m) where
   -- identity 0
-  pub no_server_lem : (k : Refusal) → m.verdict ≡ verdict.Refused k → refused (number_of k) ≡ take_front i p n
+  pub no_server_lem : (k : Refusal) → m.verdict ≡ Err k → refused (number_of k) ≡ take_front i p n
   unfolding take_front
   no_server_lem k e =
       elim (tested (eqb i 0)) [
@@ -32,7 +32,7 @@ module _ (i p n : ℕ) (m : Made) (makes : Makes i p m) where
         | inr z ↦ absurd (omega (arith, number-some k, sym (ap of_verdict e) ∙ makes.number ∙ other _ z))
       ]
 
-  module _ (e : m.verdict ≡ verdict.Accepted) where
+  module _ (e : m.verdict ≡ Ok tt) where
     some : eqb i 0 ≡ false
     some = elim (tested (eqb i 0)) [ inl z ↦ absurd (omega (arith, sym (ap of_verdict e) ∙ makes.number ∙ chosen _ z)) | inr z ↦ z ]
 

@@ -1,9 +1,7 @@
 -- "A process that comes up later in the day, or comes up again after a real crash, makes a new
 -- front too and sets `front.frame` to the present frame" (docs/MAKERS.md).
-use Rattle.std.specs.Prelude.{true, false, ◌≡◌, List, [], ◌∷◌, ◌++◌, map, ℕ, ◌+◌, length}
+use Rattle.std.specs.Prelude.{true, false, ◌≡◌, List, [], ◌∷◌, ◌++◌, map, ℕ, ◌+◌, length, Result, Ok}
 use Rattle.lists.specs.Choice.{choose}
-use Rattle.refusal.specs.declared.Verdict.{Verdict}
-use Rattle.refusal.specs.declared.Verdict.TheVariants.{Accepted}
 use Rattle.refusal.specs.Answer.{of_verdict}
 use Rattle.timecode.specs.Read.{in_day}
 use Rattle.heartbeat.specs.declared.Heartbeat.{Heartbeat}
@@ -21,6 +19,7 @@ use Rattle.front.specs.declared.HeardNow.{HeardNow}
 use Rattle.front.specs.declared.TimedNow.{TimedNow}
 use Rattle.front.specs.declared.ActedNow.{ActedNow}
 use Rattle.front.specs.Front.{fresh, with_server, risen, goes_on, FrontBegins, hearing, FrontHears, timing, FrontTicks, happens, FrontActs}
+use Rattle.refusal.specs.declared.Refusal.{Refusal}
 
 -- a new front, its frame set to t
 abbrev pub new_at : ℕ → ℕ → ℕ → ℕ → Front
@@ -65,7 +64,7 @@ answers f (x ∷ xs) = answered f x ∷ answers (stepped f x) xs
 
 -- the step x, as the contracts of the calls have it
 pub data Called (f : Front) : Step → Answered → Front → Type 0 where
-  by_begin : {r : Verdict} {f' : Front} → FrontBegins f r f' → Called f begin (of_begin (of_verdict r)) f'
+  by_begin : {r : Result (Unit {0}) Refusal} {f' : Front} → FrontBegins f r f' → Called f begin (of_begin (of_verdict r)) f'
   by_hear : {h : Heartbeat} {r : HeardNow} {f' : Front} → FrontHears f h r f' → Called f (hear h) (of_hear r) f'
   by_tick : {r : TimedNow} {f' : Front} → FrontTicks f r f' → Called f tick (of_tick r) f'
   by_act : {v : Verb} {b : ℕ} {r : ActedNow} {f' : Front} → FrontActs v b f r f' → Called f (act v b) (of_act (of_verdict r.verdict) r.event r.role) f'
@@ -119,6 +118,6 @@ pub record Alike (f g : Front) : Type 0 where
 -- does, of which only its identity, its priority and its period are known
 abbrev pub RenewedGoesOn : Type 0
 RenewedGoesOn =
-    (b : ℕ) (f f' : Front) (r : ActedNow) (xs : List Step) → r.verdict ≡ Accepted → FrontActs Restart b f r f' →
+    (b : ℕ) (f f' : Front) (r : ActedNow) (xs : List Step) → r.verdict ≡ Ok tt → FrontActs Restart b f r f' →
     let g = new_at f.server.identity f.server.priority f.period.frames f.frame in
     (answers f' xs ≡ answers g xs) × Alike (moved f' xs) (moved g xs)

@@ -1,7 +1,6 @@
 -- What a playout server holds, and each step of it.
-use Rattle.std.specs.Prelude.{Bool, not, ◌&&◌, List, [], ◌∷◌, ◌++◌, ◌≡◌, ℕ, ◌+◌, leb, eqb}
+use Rattle.std.specs.Prelude.{Bool, not, ◌&&◌, List, [], ◌∷◌, ◌++◌, ◌≡◌, ℕ, ◌+◌, leb, eqb, Result, Ok, Err}
 use Rattle.lists.specs.Choice.{choose}
-use Rattle.refusal.specs.declared.Verdict.{Verdict}
 use Rattle.refusal.specs.Answer.{Answer, accepted, refused, number_of, of_verdict}
 use Rattle.timecode.specs.Read.{in_day}
 use Rattle.heartbeat.specs.declared.Heartbeat.{Heartbeat}
@@ -16,13 +15,12 @@ use Rattle.roles.specs.Roles.{role_number}
 use Rattle.server.specs.Verbs.{verb_answer}
 use Rattle.roles.specs.Verbs.{verb_happens}
 use Rattle.front.specs.declared.Front.{Front}
-use Rattle.front.specs.declared.FrontAnswer.{FrontAnswer}
-use Rattle.front.specs.declared.FrontAnswer.TheVariants.{Is, Refused}
 use Rattle.front.specs.declared.HeardNow.{HeardNow}
 use Rattle.front.specs.declared.TimedNow.{TimedNow}
 use Rattle.front.specs.declared.ActedNow.{ActedNow}
 use Rattle.front.specs.declared.AfterHearing.{AfterHearing}
 use Rattle.front.specs.declared.AfterTimers.{AfterTimers}
+use Rattle.refusal.specs.declared.Refusal.{Refusal}
 
 -- ---- a front made
 
@@ -36,9 +34,9 @@ abbrev pub front_numbers : Front → List ℕ
 front_numbers f = server_numbers f.server ++ (f.frame ∷ f.period.frames ∷ [])
 
 -- the number and the values of the answer: those of the front
-abbrev pub of_front : FrontAnswer → Answer
-of_front (Is f) = accepted (front_numbers f)
-of_front (Refused r) = refused (number_of r)
+abbrev pub of_front : Result Front Refusal → Answer
+of_front (Ok f) = accepted (front_numbers f)
+of_front (Err r) = refused (number_of r)
 
 -- one server of a fresh channel: "at frame 0, all servers idle, .. nothing sent". A front holds no
 -- links
@@ -72,7 +70,7 @@ goes_on f = in_day (f.frame + 1)
 
 -- the next frame begins; "16. Advance at frame 2,159,999.", and the same front. A frame outside the
 -- day, which no step reaches, gets 16 too
-pub record FrontBegins (f : Front) (r : Verdict) (f' : Front) : Type 0 where
+pub record FrontBegins (f : Front) (r : Result (Unit {0}) Refusal) (f' : Front) : Type 0 where
   pub number : of_verdict r ≡ choose (goes_on f) 0 16
   pub front : f' ≡ choose (goes_on f) (risen f) f
 

@@ -6,8 +6,8 @@ ghost use Rattle.front.specs.Front.{with_server, FrontBegins, hearing, FrontHear
 ghost use Rattle.front.specs.Laws.{FrontNew};
 
 use heartbeat::Heartbeat;
-use periods::{Period, PeriodAnswer};
-use refusal::{Refusal, Verdict};
+use periods::Period;
+use refusal::Refusal;
 use roles::{Event, Role, Verb};
 use server::Server;
 use timecode::Timecode;
@@ -18,13 +18,6 @@ pub struct Front {
     pub server: Server,
     pub frame: u32,
     pub period: Period,
-}
-
-// A front, or 2.
-#[derive(Clone, Copy)]
-pub enum FrontAnswer {
-    Is(Front),
-    Refused(Refusal),
 }
 
 // What happened on hearing, and the role afterwards.
@@ -46,7 +39,7 @@ pub struct TimedNow {
 // Whether the verb is accepted, what happened, and the role afterwards.
 #[derive(Clone, Copy)]
 pub struct ActedNow {
-    pub verdict: Verdict,
+    pub verdict: Result<(), Refusal>,
     pub event: Event,
     pub role: Role,
 }
@@ -55,7 +48,7 @@ pub struct ActedNow {
 #[derive(Clone, Copy)]
 pub struct AfterBegin {
     pub front: Front,
-    pub answer: Verdict,
+    pub answer: Result<(), Refusal>,
 }
 
 #[derive(Clone, Copy)]
@@ -80,25 +73,17 @@ pub struct AfterVerb {
 
 impl Front {
     // The front of an idle server at frame 0; 2 for identity 0, or a period out of range.
-    pub fn new(identity: u16, priority: u8, period: u32) -> FrontAnswer
+    pub fn new(identity: u16, priority: u8, period: u32) -> Result<Front, Refusal>
         ensures { FrontNew identity priority period result }
     {
         let made = Server::new(identity, priority);
-        let verdict = made.verdict;
-        if let Verdict::Refused(k) = verdict {
-            return FrontAnswer::Refused(k);
-        }
-        match Period::of(period) {
-            PeriodAnswer::Is(period) => {
-                let server = made.server;
-                FrontAnswer::Is(Front {
-                    server,
-                    frame: 0,
-                    period,
-                })
-            }
-            PeriodAnswer::Refused(k) => FrontAnswer::Refused(k),
-        }
+        made.verdict?;
+        let period = Period::of(period)?;
+        Ok(Front {
+            server: made.server,
+            frame: 0,
+            period,
+        })
     }
 
     fn with_server(mut self, server: Server) -> Front
@@ -122,12 +107,12 @@ impl Front {
             front.frame = self.frame + 1;
             AfterBegin {
                 front,
-                answer: Verdict::Accepted,
+                answer: Ok(()),
             }
         } else {
             AfterBegin {
                 front: self,
-                answer: Verdict::Refused(Refusal::DayOver),
+                answer: Err(Refusal::DayOver),
             }
         }
     }
@@ -231,7 +216,7 @@ impl Front {
 
 impl Front {
     // The next frame begins; 16 from the day's last frame on, and the same front.
-    pub fn begin(&mut self) -> Verdict
+    pub fn begin(&mut self) -> Result<(), Refusal>
         ensures { FrontBegins self.old result self.new }
     {
         let next = (*self).begun();

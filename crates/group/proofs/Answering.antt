@@ -1,4 +1,5 @@
 -- What calls answer. Assumes nothing.
+use Rattle.std.specs.Prelude.{Result, Ok, Err}
 use mathlib.Core.Bool.{true, false}
 use mathlib.Core.Path.{◌≡◌, sym, ap, subst, ◌∙◌}
 use mathlib.Core.List.{List}
@@ -10,8 +11,6 @@ use lib.ListN.{length}
 use Rattle.lists.specs.Splice.{splice}
 use Rattle.lists.proofs.Cases.{chosen, other}
 use Rattle.refusal.specs.declared.Refusal.{Refusal}
-use Rattle.refusal.specs.declared.Verdict.{Verdict}
-use Rattle.refusal.specs.declared.Verdict.TheVariants.{Accepted, Refused}
 use Rattle.refusal.specs.Answer.{number_of}
 use Rattle.refusal.proofs.Answers.{number-some}
 use Rattle.group.specs.declared.State.{State}
@@ -36,19 +35,19 @@ module _ (o : Outcome) (n : ℕ) where
 -- ---- the answer of a call that gets a number, and of one that does not
 
 module _ (c : State) (o : Outcome) (d : List ℕ) where
-  pub gives-not : (k : Refusal) → number_in o (length d) ≡ number_of k → Gives c o d (Refused k) 0 c d
+  pub gives-not : (k : Refusal) → number_in o (length d) ≡ number_of k → Gives c o d (Err k) 0 c d
   unfolding channel_in written_in slice_in
   gives-not k e =
       let some : eqb (number_in o (length d)) 0 ≡ false = ne_eqb (number_in o (length d)) 0 (λ z. omega (arith, number-some k)) in
       record { number = sym e; written = sym (other _ some); channel = sym (other _ some); slice = sym (other _ some) }
 
   -- where the call gets a number by itself
-  pub gives-refused : (k : Refusal) → o.number ≡ number_of k → Gives c o d (Refused k) 0 c d
+  pub gives-refused : (k : Refusal) → o.number ≡ number_of k → Gives c o d (Err k) 0 c d
   gives-refused k e = gives-not k (has-number o (length d) k e)
 
   pub gives_so :
       {n : ℕ} {x : State} {d' : List ℕ} → number_in o (length d) ≡ 0 → n ≡ length o.lines → x ≡ o.channel → d' ≡ splice d 0 o.lines →
-      Gives c o d Accepted n x d'
+      Gives c o d (Ok tt) n x d'
   unfolding channel_in written_in slice_in
   gives_so e p q s =
       let none : eqb (number_in o (length d)) 0 ≡ true = eq-eqb _ 0 e in
@@ -56,7 +55,7 @@ module _ (c : State) (o : Outcome) (d : List ℕ) where
 
 -- the same outcome, worked out in another way
 pub gives_as :
-    {c : State} {o p : Outcome} {d : List ℕ} {v : Verdict} {n : ℕ} {x : State} {d' : List ℕ} → o.number ≡ p.number → o.lines ≡ p.lines → o.channel ≡ p.channel →
+    {c : State} {o p : Outcome} {d : List ℕ} {v : Result (Unit {0}) Refusal} {n : ℕ} {x : State} {d' : List ℕ} → o.number ≡ p.number → o.lines ≡ p.lines → o.channel ≡ p.channel →
     Gives c o d v n x d' → Gives c p d v n x d'
 gives_as {c} {o} {p} {d} {v} {n} {x} {d'} a b e g =
     subst (λ (y : Outcome). Gives c y d v n x d')

@@ -1,4 +1,5 @@
 pub mod Tables
+pub mod Chains
 pub mod Made
 pub mod Remade
 pub mod Answering

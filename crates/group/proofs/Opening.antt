@@ -1,4 +1,5 @@
 -- What adding a server and opening a channel answer. Assumes nothing.
+use Rattle.std.specs.Prelude.{Ok, Err}
 use mathlib.Core.Bool.{true, false, not, ◌&&◌}
 use mathlib.Core.Path.{◌≡◌, sym, ap, ◌∙◌}
 use mathlib.Core.List.{List, [], ◌∷◌}
@@ -11,7 +12,6 @@ use Rattle.lists.specs.Choice.{choose}
 use Rattle.lists.proofs.Cases.{chosen, other, and_true, and_left, and_right, fst_true, snd_true, not_so}
 use Rattle.refusal.specs.declared.Refusal.{Refusal}
 use Rattle.refusal.specs.declared.Refusal.TheVariants.{Number}
-use Rattle.refusal.specs.declared.Verdict.TheVariants.{Accepted, Refused}
 use Rattle.refusal.specs.Answer.{Answer, accepted, refused, number_of}
 use Rattle.refusal.proofs.Answers.{number-some, took, declined}
 use Rattle.server.specs.declared.Server.{Server}
@@ -53,7 +53,7 @@ period-not n e = sym (declined _ n 2 (sym e)).1
 -- ---- the fresh channel
 
 module _ (t : Table) (n : ℕ) where
-  pub opens_not : (k : Refusal) {r : Opened} → fresh_refusal t n ≡ number_of k → r ≡ record { verdict = Refused k; state = no_channel } → Opens t n r
+  pub opens_not : (k : Refusal) {r : Opened} → fresh_refusal t n ≡ number_of k → r ≡ record { verdict = Err k; state = no_channel } → Opens t n r
   opens_not k e q = rw q (record { number = sym e; state = sym (other _ (not_zero k e)); laws = laws })
 
   -- 2
@@ -86,7 +86,7 @@ module _ (t : Table) (n : ℕ) where
   -- the servers of a table are as a fresh channel has them
   pub opens :
       {x : State} → fresh_refusal t n ≡ 0 → x ≡ record { frame = 0; period = record { frames = n }; servers = t.servers; whole = replicate (most * most) true } →
-      Opens t n (record { verdict = Accepted; state = x })
+      Opens t n (record { verdict = (Ok tt); state = x })
   opens e q =
       record {
         number = sym e;
@@ -100,18 +100,18 @@ module _ (t : Table) (n : ℕ) where
 -- ---- the table of some servers
 
 module _ (l : List Server) where
-  pub takes : is_table l ≡ true → Takes l (record { verdict = Accepted; table = record { servers = l } })
+  pub takes : is_table l ≡ true → Takes l (record { verdict = (Ok tt); table = record { servers = l } })
   unfolding table_with
   takes e = record { number = sym (chosen _ e); table = sym (chosen _ e) }
 
-  pub takes-not : {t : Table} {r : Added} → is_table l ≡ false → t ≡ empty → r ≡ record { verdict = Refused Number; table = t } → Takes l r
+  pub takes-not : {t : Table} {r : Added} → is_table l ≡ false → t ≡ empty → r ≡ record { verdict = Err Number; table = t } → Takes l r
   unfolding table_with
   takes-not e q o = rw (o, q) (record { number = sym (other _ e); table = sym (other _ e) })
 
 -- ---- a server added
 
 module _ (t : Table) (i p : ℕ) where
-  pub adds-not : (k : Refusal) {r : Added} → add_refusal t i ≡ number_of k → r ≡ record { verdict = Refused k; table = t } → Adds t i p r
+  pub adds-not : (k : Refusal) {r : Added} → add_refusal t i ≡ number_of k → r ≡ record { verdict = Err k; table = t } → Adds t i p r
   unfolding added
   adds-not k e q = rw q (record { number = sym e; table = sym (other _ (not_zero k e)) })
 
@@ -137,7 +137,7 @@ module _ (t : Table) (i p : ℕ) where
     is-new h g = chosen _ may ∙ other _ (le-ltb _ _ h) ∙ other _ (lt-leb _ _ g)
 
   pub adds :
-      {s : Server} {r : Added} → add_refusal t i ≡ 0 → s ≡ idle i p → r ≡ record { verdict = Accepted; table = record { servers = enter s t.servers } } →
+      {s : Server} {r : Added} → add_refusal t i ≡ 0 → s ≡ idle i p → r ≡ record { verdict = (Ok tt); table = record { servers = enter s t.servers } } →
       Adds t i p r
   unfolding added
   adds e q o =

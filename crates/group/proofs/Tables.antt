@@ -1,128 +1,107 @@
--- Loops over the places of a table. Assumes nothing.
+-- Servers of a table counted, entered and in order. Assumes nothing.
 use mathlib.Core.Bool.{Bool, true, false, ◌&&◌}
 use mathlib.Core.Path.{◌≡◌, refl, sym, ap, ap₂, ◌∙◌}
 use mathlib.Core.List.{List, [], ◌∷◌, ◌++◌, append_assoc, append-nil}
-use Prim.Native.Nat.{ℕ, suc, ◌+◌, ◌<◌, ◌≤◌}
+use Prim.Native.Nat.{ℕ, zero, suc, ◌+◌, ◌<◌, ◌≤◌}
 use native.Mathlib.Omega.{arith}
 use native.Mathlib.Numerals.{add-one}
 use lib.ListN.{length, take, drop, set, get_or, length-set, drop_of_length-le}
 use lib.Seq.{drop-cons, take-suc-set, take_all}
+use Rattle.std.specs.List.{sum_by, IsAllAdjacentAnswer}
+use Rattle.std.proofs.lemmas.List.{drop-set-lt}
+use Rattle.std.proofs.lemmas.List.Sums.{sum_by-cons}
 use Rattle.lists.specs.Choice.{choose}
+use Rattle.lists.proofs.Cases.{and_left}
 use Rattle.server.specs.declared.Server.{Server}
 use Rattle.server.specs.Server.{absent}
 use Rattle.group.specs.Table.{is_empty, counted, stands_before, enter, follows, rises}
 
--- ---- counting the servers: n of them stand in the first i places
+-- ---- counting the servers, one a place
 
-pub record Counting (l : List Server) (n i : ℕ) : Type 0 where
-  pub long : length l ≡ 16
-  pub within : i ≤ 16
-  pub few : n ≤ i
-  pub so_far : counted l ≡ n + counted (drop i l)
+abbrev pub one_of : Server → ℕ
+one_of s = choose (is_empty s) 0 1
 
-module _ {l : List Server} where
-  pub count-begin : length l ≡ 16 → Counting l 0 0
-  count-begin e = record { long = e; within = omega arith; few = omega arith; so_far = omega arith }
+pub sum_counts : (l : List Server) → sum_by one_of l ≡ counted l
+unfolding choose
+sum_counts [] = refl
+sum_counts (s ∷ l) = sum_by-cons one_of s l ∙ ap (λ (n : ℕ). one_of s + n) (sum_counts l) ∙ step (is_empty s) (counted l)
+  where
+    step : (b : Bool) (n : ℕ) → choose b 0 1 + n ≡ choose b n (suc n)
+    step true n = omega arith
+    step false n = omega arith
 
-  pub count_turn : {n i k : ℕ} → Counting l n i → i < 16 → k ≡ choose (is_empty (get_or l i absent)) 0 1 → Counting l (n + k) (i + 1)
-  unfolding choose
-  count_turn {n} {i} {k} v h e =
-      let o = ap counted (drop-cons l i absent (omega (arith, v.long))) in
-      rw add-one (record { long = v.long; within = omega arith; few = omega (arith, v.few, small (is_empty (get_or l i absent))); so_far = omega (arith, v.so_far, o, e, step (is_empty (get_or l i absent))) })
-    where
-      step : (b : Bool) → choose b (counted (drop (suc i) l)) (suc (counted (drop (suc i) l))) ≡ choose b 0 1 + counted (drop (suc i) l)
-      step true = omega arith
-      step false = omega arith
+pub counted-few : (l : List Server) → counted l ≤ length l
+unfolding choose
+counted-few [] = omega arith
+counted-few (s ∷ l) = small (is_empty s) (counted l) (length l) (counted-few l)
+  where
+    small : (b : Bool) (n k : ℕ) → n ≤ k → choose b n (suc n) ≤ suc k
+    small true n k h = omega arith
+    small false n k h = omega arith
 
-      small : (b : Bool) → choose b 0 1 ≤ 1
-      small true = omega arith
-      small false = omega arith
-
-  pub count-end : {n i : ℕ} → Counting l n i → 16 ≤ i → n ≡ counted l
-  count-end {n} {i} v h =
-      omega (arith, v.so_far, ap counted (drop_of_length-le l (let g : length l ≤ i = omega (arith, v.long) in g)))
-
--- ---- a server entered: next has the places before i, and x is to be entered into the rest
+-- ---- a server entered: the places before i are done, and x is to be entered into the rest
 
 pub record Entering (new : Server) (l next : List Server) (x : Server) (i : ℕ) : Type 0 where
-  pub long : length l ≡ 16
-  pub kept : length next ≡ 16
-  pub within : i ≤ 16
-  pub so_far : take i next ++ enter x (drop i l) ≡ enter new l
+  pub long : length next ≡ 16
+  pub so_far : take i next ++ enter x (drop i next) ≡ enter new l
 
 module _ {new : Server} {l : List Server} where
   pub enter-begin : length l ≡ 16 → Entering new l l new 0
-  enter-begin e = record { long = e; kept = e; within = omega arith; so_far = refl }
+  enter-begin e = record { long = e; so_far = refl }
 
   pub enter-turn :
-      {next : List Server} {x y z : Server} {b : Bool} {i : ℕ} → Entering new l next x i → i < 16 → b ≡ stands_before x (get_or l i absent) →
-      y ≡ choose b x (get_or l i absent) → z ≡ choose b (get_or l i absent) x → Entering new l (set next i y) z (i + 1)
+      {next : List Server} {x y z : Server} {b : Bool} {i : ℕ} → Entering new l next x i → i < 16 → b ≡ stands_before x (get_or next i absent) →
+      y ≡ choose b x (get_or next i absent) → z ≡ choose b (get_or next i absent) x → Entering new l (set next i y) z (i + 1)
   unfolding enter
   enter-turn {next} {x} {y} {z} {b} {i} v h e p q =
-      let s = get_or l i absent in
-      let opened : enter x (drop i l) ≡ choose (stands_before x s) x s ∷ enter (choose (stands_before x s) s x) (drop (suc i) l) =
-      ap (enter x) (drop-cons l i absent (omega (arith, v.long)))
+      let s = get_or next i absent in
+      let opened : enter x (drop i next) ≡ choose (stands_before x s) x s ∷ enter (choose (stands_before x s) s x) (drop (suc i) next) =
+      ap (enter x) (drop-cons next i absent (omega (arith, v.long)))
       in
       let first : y ≡ choose (stands_before x s) x s = p ∙ ap (λ (t : Bool). choose t x s) e in
       let second : z ≡ choose (stands_before x s) s x = q ∙ ap (λ (t : Bool). choose t s x) e in
+      let rest : drop (suc i) (set next i y) ≡ drop (suc i) next = drop-set-lt (suc i) next i y (omega arith) in
       record {
-        long = v.long;
-        kept = length-set next i y ∙ v.kept;
-        within = omega arith;
+        long = length-set next i y ∙ v.long;
         so_far =
             rw add-one
-            (ap (λ (t : List Server). t ++ enter z (drop (suc i) l)) (take-suc-set next i y (omega (arith, v.kept)))
-            ∙ append_assoc (take i next) (y ∷ []) (enter z (drop (suc i) l))
+            (ap₂ (λ (t m : List Server). t ++ enter z m) (take-suc-set next i y (omega (arith, v.long))) rest
+            ∙ append_assoc (take i next) (y ∷ []) (enter z (drop (suc i) next))
             ∙ ap (λ (t : List Server). take i next ++ t)
-            (ap₂ (λ (a c : Server). a ∷ enter c (drop (suc i) l)) first second ∙ sym opened)
+            (ap₂ (λ (a c : Server). a ∷ enter c (drop (suc i) next)) first second ∙ sym opened)
             ∙ v.so_far);
       }
 
   pub enter-end : {next : List Server} {x : Server} {i : ℕ} → Entering new l next x i → 16 ≤ i → next ≡ enter new l
   unfolding enter
   enter-end {next} {x} {i} v h =
-      sym (take_all i next (omega (arith, v.kept)))
+      let past : length next ≤ i = omega (arith, v.long) in
+      sym (take_all i next past)
       ∙ sym (append-nil (take i next))
-      ∙ ap (λ (t : List Server). take i next ++ enter x t) (sym (drop_of_length-le l (let g : length l ≤ i = omega (arith, v.long) in g)))
+      ∙ ap (λ (t : List Server). take i next ++ enter x t) (sym (drop_of_length-le next past))
       ∙ v.so_far
 
--- ---- identities that rise: they do so up to place i, where `last` stands before it
+-- ---- identities that rise: each server may stand after the one before it
 
-pub record Climbing (l : List Server) (last : Server) (rising : Bool) (i : ℕ) : Type 0 where
-  pub long : length l ≡ 16
-  pub within : i ≤ 16
-  pub so_far : (rising && rises (last ∷ drop i l)) ≡ rises l
+all-rise : (l : List Server) → ((k : ℕ) (d : Server) → suc k < length l → true ≡ follows (get_or l k d) (get_or l (suc k) d)) → true ≡ rises l
+unfolding rises
+all-rise [] h = refl
+all-rise (s ∷ []) h = refl
+all-rise (s ∷ x ∷ l) h =
+    ap₂ (λ (a b : Bool). a && b) (h 0 absent (omega arith)) (all-rise (x ∷ l) (λ k d g. h (suc k) d (omega arith)))
 
-module _ {l : List Server} where
-  pub climb_begin : length l ≡ 16 → Climbing l (get_or l 0 absent) true 1
-  climb_begin e = record { long = e; within = omega arith; so_far = ap rises (sym (drop-cons l 0 absent (omega (arith, e)))) }
+some-fall :
+    (l : List Server) (k : ℕ) → suc k < length l → ((d : Server) → false ≡ follows (get_or l k d) (get_or l (suc k) d)) → false ≡ rises l
+unfolding rises
+some-fall [] k g h = absurd (omega arith)
+some-fall (s ∷ []) k g h = absurd (omega arith)
+some-fall (s ∷ x ∷ l) zero g h = sym (and_left _ (sym (h absent)))
+some-fall (s ∷ x ∷ l) (suc k) g h = and_false (follows s x) (some-fall (x ∷ l) k (omega arith) h)
+  where
+    and_false : (a : Bool) {b : Bool} → false ≡ b → false ≡ (a && b)
+    and_false true e = e
+    and_false false e = refl
 
-  pub climb_turn :
-      {last : Server} {rising more : Bool} {i : ℕ} → Climbing l last rising i → i < 16 → more ≡ follows last (get_or l i absent) →
-      Climbing l (get_or l i absent) (rising && more) (i + 1)
-  unfolding rises
-  climb_turn {last} {rising} {more} {i} v h e =
-      let x = get_or l i absent in
-      rw add-one
-      (record {
-        long = v.long;
-        within = omega arith;
-        so_far =
-            and_assoc rising more (rises (x ∷ drop (suc i) l))
-            ∙ ap (λ (t : Bool). rising && (t && rises (x ∷ drop (suc i) l))) e
-            ∙ ap (λ (m : List Server). rising && rises (last ∷ m)) (sym (drop-cons l i absent (omega (arith, v.long))))
-            ∙ v.so_far;
-      })
-    where
-      and_assoc : (a b c : Bool) → ((a && b) && c) ≡ (a && (b && c))
-      and_assoc true b c = refl
-      and_assoc false b c = refl
-
-  pub climb_end : {last : Server} {rising : Bool} {i : ℕ} → Climbing l last rising i → 16 ≤ i → rising ≡ rises l
-  unfolding rises
-  climb_end {last} {rising} {i} v h =
-      and_last rising ∙ ap (λ (m : List Server). rising && rises (last ∷ m)) (sym (drop_of_length-le l (let g : length l ≤ i = omega (arith, v.long) in g))) ∙ v.so_far
-    where
-      and_last : (a : Bool) → a ≡ (a && true)
-      and_last true = refl
-      and_last false = refl
+pub rise-answer : (l : List Server) (r : Bool) → IsAllAdjacentAnswer (λ x y b. b ≡ follows x y) l r → r ≡ rises l
+rise-answer l true h = all-rise l (λ k d g. simp add-one at (h k d (omega arith)))
+rise-answer l false h = some-fall l h.0 (let g = h.1 in omega arith) (λ d. simp add-one at (h.2 d))

@@ -1,7 +1,6 @@
 -- What the calls answer.
-use Rattle.std.specs.Prelude.{◌≡◌, List, ℕ, eqb, length}
+use Rattle.std.specs.Prelude.{◌≡◌, List, ℕ, eqb, length, Result}
 use Rattle.lists.specs.Choice.{choose}
-use Rattle.refusal.specs.declared.Verdict.{Verdict}
 use Rattle.refusal.specs.Answer.{of_verdict}
 use Rattle.server.specs.declared.Server.{Server}
 use Rattle.periods.specs.Period.{least_period}
@@ -12,6 +11,7 @@ use Rattle.group.specs.declared.Opened.{Opened}
 use Rattle.group.specs.Outcome.{Outcome, number_in, channel_in, written_in, slice_in}
 use Rattle.group.specs.Table.{empty, is_table, table_with, add_refusal, added, fresh_refusal, fresh}
 use Rattle.group.specs.Laws.{Laws}
+use Rattle.refusal.specs.declared.Refusal.{Refusal}
 
 -- adding a server of identity i and priority p to the table t
 pub record Adds (t : Table) (i p : ℕ) (r : Added) : Type 0 where
@@ -37,7 +37,7 @@ pub record Opens (t : Table) (n : ℕ) (r : Opened) : Type 0 where
 
 -- a call on the channel c with the lent slice d: its verdict, how many bytes it wrote, the channel
 -- x that it hands back, and the slice afterwards
-pub record Gives (c : State) (o : Outcome) (d : List ℕ) (v : Verdict) (n : ℕ) (x : State) (d' : List ℕ) : Type 0 where
+pub record Gives (c : State) (o : Outcome) (d : List ℕ) (v : Result (Unit {0}) Refusal) (n : ℕ) (x : State) (d' : List ℕ) : Type 0 where
   pub number : of_verdict v ≡ number_in o (length d)
   pub written : n ≡ written_in o (length d)
   pub channel : x ≡ channel_in c o (length d)

@@ -9,8 +9,8 @@ ghost use Rattle.roles.specs.Roles.{role_number};
 ghost use Rattle.group.specs.Table.{most, empty, is_empty, counted, named, place_in, stands_before, enter, anew, is_new, follows, rises, is_table};
 ghost use Rattle.group.specs.Answers.{Adds, Takes, no_channel, Opens};
 
-use periods::{Period, PeriodAnswer};
-use refusal::{Refusal, Verdict};
+use periods::Period;
+use refusal::Refusal;
 use server::Server;
 
 // A place for each server that a channel may have.
@@ -39,14 +39,14 @@ pub struct State {
 // A table after a server is added, or the same one.
 #[derive(Clone, Copy)]
 pub struct Added {
-    pub verdict: Verdict,
+    pub verdict: Result<(), Refusal>,
     pub table: Table,
 }
 
 // A fresh channel; where it is refused, one with no server.
 #[derive(Clone, Copy)]
 pub struct Opened {
-    pub verdict: Verdict,
+    pub verdict: Result<(), Refusal>,
     pub state: State,
 }
 
@@ -63,15 +63,8 @@ pub fn named(identity: u16, s: Server) -> bool
 pub fn place_in(servers: Servers, identity: u16) -> usize
     ensures { result ≡ place_in servers identity }
 {
-    let mut place = 0;
-    while place < Table::SERVERS {
-        let s = servers[place];
-        if named(identity, s) {
-            return place;
-        }
-        place += 1;
-    }
-    place
+    let found = servers.iter().position(|s| named(identity, *s));
+    found.unwrap_or(Table::SERVERS)
 }
 
 // One server, or none in an empty place.
@@ -85,14 +78,7 @@ fn one(s: Server) -> usize
 fn count(servers: Servers) -> usize
     ensures { result ≡ counted servers }
 {
-    let mut n: usize = 0;
-    let mut i: usize = 0;
-    while i < Table::SERVERS {
-        let s = servers[i];
-        n += one(s);
-        i += 1;
-    }
-    n
+    servers.iter().map(|s| one(*s)).sum()
 }
 
 fn stands_before(new: Server, s: Server) -> bool
@@ -113,14 +99,12 @@ fn enter(servers: Servers, new: Server) -> Servers
 {
     let mut next = servers;
     let mut carried = new;
-    let mut i: usize = 0;
-    while i < Table::SERVERS {
-        let s = servers[i];
+    for place in next.iter_mut() {
+        let s = *place;
         let first = stands_before(carried, s);
         let entered = pick(first, carried, s);
-        next[i] = entered;
         carried = pick(first, s, carried);
-        i += 1;
+        *place = entered;
     }
     next
 }
@@ -155,31 +139,14 @@ fn follows(s: Server, x: Server) -> bool
 fn are_new(servers: Servers) -> bool
     ensures { result ≡ every is_new servers }
 {
-    let mut i: usize = 0;
-    while i < Table::SERVERS {
-        let s = servers[i];
-        if !is_new(s) {
-            return false;
-        }
-        i += 1;
-    }
-    true
+    servers.iter().all(|s| is_new(*s))
 }
 
 // In rising identity, empty places last.
 fn rise(servers: Servers) -> bool
     ensures { result ≡ rises servers }
 {
-    let mut last = servers[0];
-    let mut rising = true;
-    let mut i: usize = 1;
-    while i < Table::SERVERS {
-        let s = servers[i];
-        rising = rising & follows(last, s);
-        last = s;
-        i += 1;
-    }
-    rising
+    servers.is_sorted_by(|s, x| follows(*s, *x))
 }
 
 // Whether adding makes these servers.
@@ -213,7 +180,7 @@ impl Table {
         if is_table(servers) {
             let table = Table { servers };
             Added {
-                verdict: Verdict::Accepted,
+                verdict: Ok(()),
                 table,
             }
         } else {
@@ -230,22 +197,22 @@ impl Table {
     }
 
     fn refused(self, k: Refusal) -> Added
-        ensures { result ≡ record { verdict = Verdict.Refused k; table = self } }
+        ensures { result ≡ record { verdict = Err k; table = self } }
     {
         Added {
-            verdict: Verdict::Refused(k),
+            verdict: Err(k),
             table: self,
         }
     }
 
     fn with(self, new: Server) -> Added
-        ensures { result ≡ record { verdict = Verdict.Accepted; table = record { servers = enter new self.servers } } }
+        ensures { result ≡ record { verdict = Ok tt; table = record { servers = enter new self.servers } } }
     {
         let before = self.servers;
         let servers = enter(before, new);
         let table = Table { servers };
         Added {
-            verdict: Verdict::Accepted,
+            verdict: Ok(()),
             table,
         }
     }
@@ -286,13 +253,13 @@ fn open(servers: Servers, period: Period) -> State
 
 // No channel: one with no server.
 fn unopened(k: Refusal) -> Opened
-    ensures { result ≡ record { verdict = Verdict.Refused k; state = no_channel } }
+    ensures { result ≡ record { verdict = Err k; state = no_channel } }
 {
     let table = Table::empty();
     let servers = table.servers;
     let state = open(servers, Period::shortest());
     Opened {
-        verdict: Verdict::Refused(k),
+        verdict: Err(k),
         state,
     }
 }
@@ -314,7 +281,7 @@ fn open_with(table: Table, period: Period) -> Opened
     }
     let state = open(servers, period);
     Opened {
-        verdict: Verdict::Accepted,
+        verdict: Ok(()),
         state,
     }
 }
@@ -325,8 +292,8 @@ impl State {
         ensures { Opens table period result }
     {
         match Period::of(period) {
-            PeriodAnswer::Is(p) => open_with(table, p),
-            PeriodAnswer::Refused(k) => unopened(k),
+            Ok(p) => open_with(table, p),
+            Err(k) => unopened(k),
         }
     }
 }

@@ -1,5 +1,5 @@
 -- The message, read from a line and written as one.
-use Rattle.std.specs.Prelude.{Bool, not, List, [], ◌∷◌, ◌++◌, ℕ, eqb, length, take}
+use Rattle.std.specs.Prelude.{Bool, not, List, [], ◌∷◌, ◌++◌, ℕ, eqb, length, take, Result, Ok, Err}
 use Rattle.lists.specs.Choice.{choose}
 use Rattle.lists.specs.Lists.{up_to}
 use Rattle.refusal.specs.Answer.{Answer, accepted, refused, in_turn, number_of}
@@ -10,13 +10,12 @@ use Rattle.text.specs.Line.{read_line, fields, field}
 use Rattle.heartbeat.specs.Rank.{read_identity, read_priority}
 use Rattle.heartbeat.specs.declared.Heartbeat.{Heartbeat}
 use Rattle.heartbeat.specs.declared.Rank.{Rank}
-use Rattle.heartbeat.specs.declared.HeartbeatAnswer.{HeartbeatAnswer}
-use Rattle.heartbeat.specs.declared.HeartbeatAnswer.TheVariants.{Is, Refused}
+use Rattle.refusal.specs.declared.Refusal.{Refusal}
 
 -- the number and the values of the answer: the four fields
-abbrev pub of_heartbeat : HeartbeatAnswer → Answer
-of_heartbeat (Is h) = accepted (h.bs ∷ h.priority ∷ h.tiebreaker ∷ h.reveal ∷ [])
-of_heartbeat (Refused r) = refused (number_of r)
+abbrev pub of_heartbeat : Result Heartbeat Refusal → Answer
+of_heartbeat (Ok h) = accepted (h.bs ∷ h.priority ∷ h.tiebreaker ∷ h.reveal ∷ [])
+of_heartbeat (Err r) = refused (number_of r)
 
 -- the sender, by its priority and its TieBreaker
 abbrev pub sender : Heartbeat → Rank

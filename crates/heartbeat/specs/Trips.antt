@@ -1,12 +1,12 @@
 -- Writing and reading a heartbeat undo each other. The contract of `Heartbeat::write` has both laws
 -- (`Trips`, below); the proof is `trips` of proofs/Back.antt.
-use Rattle.std.specs.Prelude.{List, [], ◌∷◌, ◌≡◌, ℕ, ◌≤◌}
+use Rattle.std.specs.Prelude.{List, [], ◌∷◌, ◌≡◌, ℕ, ◌≤◌, Result}
 use Rattle.refusal.specs.Answer.{Answer, accepted}
-use Rattle.text.specs.declared.Written.{Written}
 use Rattle.text.specs.Write.{WritesIf}
 use Rattle.heartbeat.specs.declared.Heartbeat.{Heartbeat}
 use Rattle.heartbeat.specs.Rank.{least_identity, greatest_identity, greatest_priority}
 use Rattle.heartbeat.specs.Heartbeat.{greatest_bs, read_heartbeat, reveal_written, writable, line_with, heartbeat_line}
+use Rattle.refusal.specs.declared.Refusal.{Refusal}
 
 -- the answer that gives the fields of h, with the Reveal v
 abbrev pub fields_with : Heartbeat → ℕ → Answer
@@ -30,6 +30,6 @@ pub record Trips : Type 0 where
   pub written : HeartbeatWritesBack
 
 -- a call that writes the line of h, and what holds of all heartbeats written and read
-pub record WritesHeartbeat (h : Heartbeat) (d : List ℕ) (at : ℕ) (r : Written) (d' : List ℕ) : Type 0 where
+pub record WritesHeartbeat (h : Heartbeat) (d : List ℕ) (at : ℕ) (r : Result ℕ Refusal) (d' : List ℕ) : Type 0 where
   pub writes : WritesIf (writable h) 2 d at (heartbeat_line h) r d'
   pub trips : Trips

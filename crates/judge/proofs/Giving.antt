@@ -1,17 +1,14 @@
 -- What the calls answer, from what the calls that they make answer. Assumes nothing.
-use mathlib.Core.Bool.{Bool, true, false, ◌&&◌, ◌||◌}
+use Rattle.std.specs.Prelude.{Result, Ok, Err, None}
+use mathlib.Core.Bool.{Bool, true, false}
 use mathlib.Core.Path.{◌≡◌, refl, sym, ap, ap₂, subst, ◌∙◌}
-use mathlib.Core.List.{List, [], ◌∷◌}
-use Prim.Native.Nat.{ℕ, suc, ◌+◌, ◌-◌, ◌≤◌, ◌<◌}
+use mathlib.Core.List.{List, []}
+use Prim.Native.Nat.{ℕ, ◌+◌, ◌-◌, ◌≤◌, ◌<◌}
 use native.Mathlib.Omega.{arith}
 use lib.ListN.{length, take, drop}
-use Rattle.lists.specs.Choice.{choose}
-use Rattle.lists.specs.Splice.{splice}
 use Rattle.lists.proofs.Cases.{tested, on, clash, chosen, other}
-use Rattle.refusal.specs.Answer.{accepted, refused}
+use Rattle.refusal.specs.Answer.{refused}
 use Rattle.refusal.proofs.Answers.{not-both}
-use Rattle.text.specs.declared.Written.{Written}
-use Rattle.text.specs.declared.Written.TheVariants.{To, Refused}
 use Rattle.text.specs.Write.{of_written}
 use Rattle.day.specs.Sheet.{header}
 use Rattle.departure.specs.declared.Compared.{Compared}
@@ -23,25 +20,23 @@ use Rattle.feed.specs.declared.Feed.{Feed}
 use Rattle.feed.specs.declared.Step.{Step}
 use Rattle.feed.specs.Answers.{fed_of, Begins as FeedBegins}
 use Rattle.printer.specs.declared.Printed.{Printed}
-use Rattle.printer.specs.Print.{Print, rests, print, short}
+use Rattle.printer.specs.Print.{Print, print, short}
 use Rattle.printer.specs.Answers.{written_bytes, Prints, PrintsIn}
 use Rattle.printer.proofs.Told.{begun_to, begun-slice, printed-to}
 use Rattle.printer.proofs.Laws.{laws as print-laws}
-use Rattle.judging.specs.declared.Judgement.{Judgement}
-use Rattle.judging.specs.declared.Judgement.TheVariants.{Open, Decided}
 use Rattle.judge.specs.declared.Judge.{Judge}
-use Rattle.judge.specs.declared.Given.{Given}
 use Rattle.judging.specs.Bounds.{sheet_limit}
-use Rattle.judging.specs.Judging.{Judging, beginning, closed, sated, Taking, with_print, with_compared, day_taking, sheet_taking}
-use Rattle.judge.specs.Answers.{end_in, start_in, held_in, judging_of, fresh_judge, Begins, PrintsDue, DayGiven, with_found, sheet_given, SheetGiven}
+use Rattle.judging.specs.Judging.{closed, sated, Taking}
+use Rattle.judge.specs.Answers.{end_in, start_in, held_in, judging_of, Begins, DayGiven, with_found, sheet_given, SheetGiven}
 use Rattle.judging.proofs.Standing.{day-idle, day-busy, sheet-idle, sheet-busy}
 use Rattle.judge.proofs.Holding.{in_order, held-length, held-written, held_after, open_few}
 use Rattle.judging.proofs.Laws.{laws, bytes-few}
+use Rattle.refusal.specs.declared.Refusal.{Refusal}
 
 -- ---- the first call
 
 abbrev judge_from : Feed → ℕ → Judge
-judge_from f n = record { feed = f; from = 0; to = n; lines = 0; judgement = Open }
+judge_from f n = record { feed = f; from = 0; to = n; lines = 0; judgement = None }
 
 pub begun-by : {d : List ℕ} {r : Step} {d' : List ℕ} {n : ℕ} → FeedBegins d r d' → step_bytes ≤ length d → n ≡ written_bytes r.written → Begins d (judge_from r.feed n) d'
 begun-by {d} {r} {d'} {n} b h e =
@@ -53,7 +48,7 @@ begun-by {d} {r} {d'} {n} b h e =
       due = slice;
       stands =
           λ l w k.
-          ap₂ (λ (f : Fed) (x : List ℕ). record { fed = f; held = x; lines = 0; judgement = Open })
+          ap₂ (λ (f : Fed) (x : List ℕ). record { fed = f; held = x; lines = 0; judgement = None })
           (b.fed l w k)
           (ap (held_in (judge_from r.feed n)) slice ∙ held-written (judge_from r.feed n) d header refl to room);
       laws = laws;
@@ -75,9 +70,9 @@ day-waits x l w k d s last n e =
     }
 
 -- as many bytes were written as the lines have
-no_bytes : (p : Written) {n : ℕ} → of_written p ≡ refused n → written_bytes p ≡ 0
-no_bytes (To m) e = not-both (sym e)
-no_bytes (Refused k) e = refl
+no_bytes : (p : Result ℕ Refusal) {n : ℕ} → of_written p ≡ refused n → written_bytes p ≡ 0
+no_bytes (Ok m) e = not-both (sym e)
+no_bytes (Err k) e = refl
 
 pub bytes_are : {f : Fed} {s : List ℕ} {last : Bool} {d : List ℕ} {r : Printed} {f' : Fed} {d' : List ℕ} → Prints f s last d r f' d' → written_bytes r.written ≡ length (print f s last (length d)).lines
 bytes_are {f} {s} {last} {d} {r} p =

@@ -1,7 +1,8 @@
 -- Where the bytes held lie. Assumes nothing.
-use mathlib.Core.Bool.{Bool, true, false, not, ◌&&◌, ◌||◌}
+use Rattle.std.specs.Prelude.{min, Option, None, Some, is_some}
+use mathlib.Core.Bool.{Bool, false, not, ◌&&◌, ◌||◌}
 use mathlib.Core.Path.{◌≡◌, refl, sym, ap, ap₂, ◌∙◌}
-use mathlib.Core.List.{List, [], ◌∷◌, ◌++◌}
+use mathlib.Core.List.{List, []}
 use Prim.Native.Nat.{ℕ, suc, ◌+◌, ◌-◌, ◌≤◌, ◌<◌}
 use native.Mathlib.Omega.{arith}
 use borrow.Author.Tests.{lt-ltb, le-ltb, leb-false}
@@ -12,11 +13,11 @@ use Rattle.lists.specs.Splice.{splice}
 use Rattle.lists.proofs.Cases.{less, on, chosen, other, or_false}
 use Rattle.lists.proofs.Splicing.{splice-length}
 use Rattle.departure.specs.declared.Compared.{Compared}
-use Rattle.judging.specs.declared.Judgement.{Judgement}
 use Rattle.judge.specs.declared.Judge.{Judge}
 use Rattle.judging.specs.Bounds.{sheet_limit}
 use Rattle.judging.specs.Judging.{is_decided, closed, decision}
 use Rattle.judge.specs.Answers.{least, end_in, start_in, held_in, with_found}
+use Rattle.departure.specs.declared.Departure.{Departure}
 
 pub least_first : (a b : ℕ) → a < b → least a b ≡ a
 unfolding least
@@ -25,6 +26,12 @@ least_first a b h = chosen b (lt-ltb a b h)
 pub least_other : (a b : ℕ) → b ≤ a → least a b ≡ b
 unfolding least
 least_other a b h = other a (le-ltb a b h)
+
+pub min_least : (a b : ℕ) → min a b ≡ least a b
+min_least a b =
+    on (less a b)
+    (λ h. let e = least_first a b h in omega arith)
+    (λ h. let e = least_other a b h in omega arith)
 
 pub least-within : (a b : ℕ) → (least a b ≤ a) × (least a b ≤ b)
 least-within a b =
@@ -46,11 +53,15 @@ held-length x d =
 
 -- ---- tests
 
-pub closed-by : {b : Bool} (v : Judgement) (n : ℕ) → b ≡ is_decided v → (b || leb sheet_limit n) ≡ closed v n
+pub some_decided : (v : Option Departure) → is_some v ≡ is_decided v
+some_decided None = refl
+some_decided (Some d) = refl
+
+pub closed-by : {b : Bool} (v : Option Departure) (n : ℕ) → b ≡ is_decided v → (b || leb sheet_limit n) ≡ closed v n
 unfolding closed
 closed-by v n e = ap (λ (z : Bool). z || leb sheet_limit n) e
 
-pub open_few : (v : Judgement) (n : ℕ) → closed v n ≡ false → n < sheet_limit
+pub open_few : (v : Option Departure) (n : ℕ) → closed v n ≡ false → n < sheet_limit
 unfolding closed
 open_few v n e = leb-false sheet_limit n (or_false (is_decided v) (leb sheet_limit n) e).1
 
@@ -63,11 +74,11 @@ sated-by x d all o e = ap₂ (λ (a : Bool) (m : ℕ). a || ltb 0 m) o (e ∙ ap
 -- ---- what was found
 
 pub found-by :
-    (x : Judge) (at n m : ℕ) (last : Bool) (c : Compared) {over : Bool} {v : Judgement} → over ≡ x.feed.over →
+    (x : Judge) (at n m : ℕ) (last : Bool) (c : Compared) {over : Bool} {v : Option Departure} → over ≡ x.feed.over →
     v ≡ decision (c.departed || ((ltb c.bytes n && last) || (ltb c.bytes m && over))) (last && over) (x.lines + c.lines + 1) →
     record { feed = x.feed; from = at + c.bytes; to = x.to; lines = x.lines + c.lines; judgement = v } ≡ with_found x at n m last c
 found-by x at n m last c {over} {v} o e =
-    ap (λ (z : Judgement). record { feed = x.feed; from = at + c.bytes; to = x.to; lines = x.lines + c.lines; judgement = z })
+    ap (λ (z : Option Departure). record { feed = x.feed; from = at + c.bytes; to = x.to; lines = x.lines + c.lines; judgement = z })
     (e
     ∙ ap₂ (λ (b : Bool) (k : ℕ). decision (c.departed || ((ltb c.bytes n && last) || (ltb c.bytes m && b))) (last && b) k) o
     (let z : x.lines + c.lines + 1 ≡ suc (x.lines + c.lines) = omega arith in z))

@@ -1,5 +1,5 @@
 -- What the calls of a judge answer.
-use Rattle.std.specs.Prelude.{Bool, true, false, ◌&&◌, ◌≡◌, List, ℕ, suc, ◌+◌, ◌-◌, ltb, length, take, drop}
+use Rattle.std.specs.Prelude.{Bool, true, false, ◌&&◌, ◌≡◌, List, ℕ, suc, ◌+◌, ◌-◌, ltb, length, take, drop, None}
 use Rattle.lists.specs.Choice.{choose}
 use Rattle.lists.specs.Splice.{splice}
 use Rattle.day.specs.Sheet.{header}
@@ -9,7 +9,6 @@ use Rattle.feeding.specs.Bound.{step_bytes}
 use Rattle.feed.specs.Answers.{fed_of, fresh_feed}
 use Rattle.printer.specs.declared.Printed.{Printed}
 use Rattle.printer.specs.Answers.{written_bytes, PrintsIn}
-use Rattle.judging.specs.declared.Judgement.TheVariants.{Open}
 use Rattle.judge.specs.declared.Judge.{Judge}
 use Rattle.judge.specs.declared.Given.{Given}
 use Rattle.judging.specs.Judging.{Judging, beginning, closed, asks, sated, day_taking, departs, decision, sheet_taking}
@@ -39,7 +38,7 @@ judging_of x l w k d = record { fed = fed_of x.feed l w k; held = held_in x d; l
 -- ---- the first call
 
 abbrev pub fresh_judge : Judge
-fresh_judge = record { feed = fresh_feed; from = 0; to = length header; lines = 0; judgement = Open }
+fresh_judge = record { feed = fresh_feed; from = 0; to = length header; lines = 0; judgement = None }
 
 -- the header is due, and what holds of all calls. What else is lent does not matter yet
 pub record Begins (d : List ℕ) (r : Judge) (d' : List ℕ) : Type 0 where

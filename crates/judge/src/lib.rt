@@ -6,13 +6,12 @@
 ghost use Rattle.std.specs.Prelude.{◌≡◌, ◌+◌, ◌-◌, ◌≤◌, ◌<◌, not};
 ghost use Rattle.feeding.specs.Bound.{step_bytes};
 ghost use Rattle.judging.specs.Bounds.{sheet_limit};
-ghost use Rattle.judge.specs.Answers.{least, end_in, start_in, with_found, Begins, DayGiven, SheetGiven, Asks};
+ghost use Rattle.judge.specs.Answers.{end_in, start_in, with_found, Begins, DayGiven, SheetGiven, Asks};
 ghost use Rattle.judging.specs.Judging.{is_decided, closed, decision};
 
 use departure::{Compared, Departure};
 use feed::Feed;
 use group::Links;
-use judging::Judgement;
 use places::Packed;
 
 // Where a day and a sheet stand: the day; the bytes due that the sheet has not come to, which are
@@ -23,7 +22,7 @@ pub struct Judge {
     from: usize,
     to: usize,
     lines: u64,
-    judgement: Judgement,
+    judgement: Option<Departure>,
 }
 
 // How many bytes of a piece were taken, and the judge then. Those that were not are to be given
@@ -34,31 +33,16 @@ pub struct Given {
     pub judge: Judge,
 }
 
-fn least(a: usize, b: usize) -> usize
-    ensures { result ≡ least a b }
-{
-    if a < b { a } else { b }
-}
-
-fn is_decided(judgement: Judgement) -> bool
-    ensures { result ≡ is_decided judgement }
-{
-    match judgement {
-        Judgement::Open => false,
-        Judgement::Decided(_) => true,
-    }
-}
-
-fn decide(departs: bool, ended: bool, line: u64) -> Judgement
+fn decide(departs: bool, ended: bool, line: u64) -> Option<Departure>
     ensures { result ≡ decision departs ended line }
 {
     if departs {
-        return Judgement::Decided(Departure::At(line));
+        return Some(Departure::At(line));
     }
     if ended {
-        return Judgement::Decided(Departure::Same);
+        return Some(Departure::Same);
     }
-    Judgement::Open
+    None
 }
 
 impl Judge {
@@ -80,12 +64,12 @@ impl Judge {
             from: 0,
             to: printer::bytes(header),
             lines: 0,
-            judgement: Judgement::Open,
+            judgement: None,
         }
     }
 
     // What is known.
-    pub fn judgement(self) -> Judgement
+    pub fn judgement(self) -> Option<Departure>
         ensures { result ≡ self.judgement }
     {
         self.judgement
@@ -95,28 +79,26 @@ impl Judge {
     pub fn is_open(self) -> bool
         ensures { result ≡ not (is_decided self.judgement) }
     {
-        let judgement = self.judgement;
-        !is_decided(judgement)
+        self.judgement.is_none()
     }
 
     fn closed(self) -> bool
         ensures { result ≡ closed self.judgement self.lines }
     {
-        let judgement = self.judgement;
-        is_decided(judgement) | (self.lines >= Judge::LIMIT)
+        self.judgement.is_some() | (self.lines >= Judge::LIMIT)
     }
 
     // Where the bytes held begin and end in n bytes lent.
     fn end(self, n: usize) -> usize
         ensures { result ≡ end_in self n }
     {
-        least(self.to, n)
+        self.to.min(n)
     }
 
     fn start(self, n: usize) -> usize
         ensures { result ≡ start_in self n }
     {
-        least(self.from, self.end(n))
+        self.from.min(self.end(n))
     }
 
     // How many they are.

@@ -1,8 +1,9 @@
 -- The laws of judging. Assumes nothing.
+use Rattle.std.specs.Prelude.{Option, None, Some}
 use mathlib.Core.Bool.{Bool, true, false, not, ◌&&◌, ◌||◌}
-use mathlib.Core.Path.{◌≡◌, refl, sym, ap, ap₂, subst, ◌∙◌}
+use mathlib.Core.Path.{◌≡◌, refl, sym, ap, subst, ◌∙◌}
 use mathlib.Core.List.{List, [], ◌∷◌, ◌++◌}
-use mathlib.Core.Logic.{◌⊎◌, inl, inr}
+use mathlib.Core.Logic.{◌⊎◌}
 use Prim.Native.Nat.{ℕ, suc, ◌+◌, ◌*◌, ◌-◌, ◌≤◌, ◌<◌}
 use native.Mathlib.Omega.{arith}
 use borrow.Author.Tests.{lt-ltb, le-ltb, ltb-false, eq-eqb, eqb-true}
@@ -10,9 +11,9 @@ use lib.Dec.{leb, ltb, eqb}
 use lib.ListN.{length, drop, length-append, length-drop}
 use Rattle.lists.specs.Choice.{choose}
 use Rattle.lists.proofs.Cases.{tested, on, less, clash, chosen, other, by_choice, not_so, and_true, and_left, fst_true, snd_true}
-use Rattle.day.specs.Sheet.{header, sheet}
+use Rattle.day.specs.Sheet.{sheet}
 use Rattle.departure.specs.declared.Departure.{Departure}
-use Rattle.departure.specs.declared.Departure.TheVariants.{Same, At}
+use Rattle.departure.specs.declared.Departure.TheVariants.{Same}
 use Rattle.departure.specs.declared.Compared.{Compared}
 use Rattle.departure.specs.Departure.{judged}
 use Rattle.departure.specs.Compare.{compared}
@@ -25,10 +26,8 @@ use Rattle.printer.specs.Print.{Print, print}
 use Rattle.printer.proofs.Turning.{idle_why}
 use Rattle.printer.proofs.Printing.{print-idle}
 use Rattle.printer.proofs.Laws.{calls-bounded, laws as print-laws}
-use Rattle.judging.specs.declared.Judgement.{Judgement}
-use Rattle.judging.specs.declared.Judgement.TheVariants.{Open, Decided}
 use Rattle.judging.specs.Bounds.{sheet_limit}
-use Rattle.judging.specs.Judging.{Judging, beginning, is_decided, closed, asks, Taking, sated, with_print, with_compared, departs, decision, day_taking, sheet_taking}
+use Rattle.judging.specs.Judging.{Judging, is_decided, closed, asks, Taking, sated, with_print, with_compared, departs, day_taking, sheet_taking}
 use Rattle.judging.specs.Laws.{Call, of_day, of_sheet, Calls, none, takes_day, takes_sheet, Reached, DayMayCome, SheetMayCome, DecidedStays, EveryWayJudges, AsDue, OpenIsAsDue, NoneIsLeft, UsedUp, AsksWhenUsedUp, NotReadBeyond, InTurn, day_next, sheet_next, CallsInTurnDecide, Laws}
 use Rattle.judging.proofs.Shortness.{sheets_are_short}
 use Rattle.judging.proofs.Asking.{idle-after}
@@ -76,11 +75,11 @@ decided_stays j p last room e =
 pub reached-status : {s g : List ℕ} {j : Judging} {s' g' : List ℕ} → Reached s g j s' g' → Status s g j s' g'
 reached-status {s} {g} r = status s g r.calls (begun s g)
 
-abbrev departure-of : Judgement → Departure
-departure-of Open = Same
-departure-of (Decided d) = d
+abbrev departure-of : Option Departure → Departure
+departure-of None = Same
+departure-of (Some d) = d
 
-not_open : {d : Departure} → Open ≡ Decided d → ⊥
+not_open : {d : Departure} → None ≡ Some d → ⊥
 not_open e = clash (ap is_decided e) refl
 
 pub every_way : EveryWayJudges
@@ -159,13 +158,13 @@ module _ (j : Judging) (p : List ℕ) (last : Bool) where
   pub bytes-few : ((compared j.held p).bytes ≤ length p) × ((compared j.held p).bytes ≤ length j.held)
   bytes-few = few (compared j.held p) (way j.held p)
 
-  left-asks : (c : Compared) → Came c → (after c).judgement ≡ Open → (c.bytes < length p) ⊎ (last ≡ true) → asks (after c) ≡ true
+  left-asks : (c : Compared) → Came c → (after c).judgement ≡ None → (c.bytes < length p) ⊎ (last ≡ true) → asks (after c) ≡ true
   left-asks c (closes e) o h = absurd (clash e (ap is_decided o))
   left-asks c (uses n e) o h = on h (λ k. absurd (omega arith)) (λ t. absurd (e t))
   left-asks c (awaits n e) o h = and_true (ap not e) (eq-eqb (length (drop c.bytes j.held)) 0 (let l = length-drop c.bytes j.held in omega arith))
 
 abbrev Leaves : List ℕ → Bool → Taking → Type 0
-Leaves p last t = t.judging.judgement ≡ Open → (t.used < length p) ⊎ (last ≡ true) → asks t.judging ≡ true
+Leaves p last t = t.judging.judgement ≡ None → (t.used < length p) ⊎ (last ≡ true) → asks t.judging ≡ true
 
 none_is_left : NoneIsLeft
 none_is_left s g s' g' j r p last = by (reached-status r)
@@ -186,16 +185,16 @@ none_to_come : (j : Judging) (s g : List ℕ) → is_decided j.judgement ≡ tru
 unfolding to_come
 none_to_come j s g e = chosen _ e
 
-pub some_to_come : (j : Judging) (s g : List ℕ) → j.judgement ≡ Open → to_come j s g ≡ suc (length s + length g + (length j.held + 2 * length (remaining j.fed s)) + choose j.fed.over 0 1)
+pub some_to_come : (j : Judging) (s g : List ℕ) → j.judgement ≡ None → to_come j s g ≡ suc (length s + length g + (length j.held + 2 * length (remaining j.fed s)) + choose j.fed.over 0 1)
 unfolding to_come
 some_to_come j s g e = other _ (ap is_decided e)
 
 none_decided : (j : Judging) (s g : List ℕ) → to_come j s g ≡ 0 → is_decided j.judgement ≡ true
 none_decided j s g e = by j.judgement refl
   where
-    by : (v : Judgement) → j.judgement ≡ v → is_decided j.judgement ≡ true
-    by Open z = absurd (let k = some_to_come j s g z in omega arith)
-    by (Decided d) z = ap is_decided z
+    by : (v : Option Departure) → j.judgement ≡ v → is_decided j.judgement ≡ true
+    by None z = absurd (let k = some_to_come j s g z in omega arith)
+    by (Some d) z = ap is_decided z
 
 bit : (b : Bool) → choose b 0 1 ≤ 1
 bit b = by_choice (λ (n : ℕ). n ≤ 1) b (λ e. omega arith) (λ e. omega arith)
@@ -216,8 +215,8 @@ module _ {s g : List ℕ} {j : Judging} {s₁ g₁ : List ℕ} (v : Standing s g
   abbrev Falls : Type 0
   Falls = Fewer (to_come next s₁ (drop c.bytes g₁)) (to_come j s₁ g₁)
 
-  moved_by : 0 < c.bytes → (w : Judgement) → next.judgement ≡ w → Falls
-  moved_by k Open e =
+  moved_by : 0 < c.bytes → (w : Option Departure) → next.judgement ≡ w → Falls
+  moved_by k None e =
       let long : length g₁ ≡ length p + length r = ap length split ∙ length-append p r in
       let f = bytes-few j p last in
       let f₀ = f.0 in
@@ -227,7 +226,7 @@ module _ {s g : List ℕ} {j : Judging} {s₁ g₁ : List ℕ} (v : Standing s g
       let x = length-drop c.bytes g₁ in
       let y = length-drop c.bytes j.held in
       omega arith
-  moved_by k (Decided d) e = let z = none_to_come next s₁ (drop c.bytes g₁) (ap is_decided e) in omega arith
+  moved_by k (Some d) e = let z = none_to_come next s₁ (drop c.bytes g₁) (ap is_decided e) in omega arith
 
   falls : asks j ≡ false → (0 < length p) ⊎ (last ≡ true) → Came j p last c → Falls
   falls turn some (closes e) = let z = none_to_come next s₁ (drop c.bytes g₁) e in omega arith
@@ -351,7 +350,7 @@ used_up {j = j} v p last room fit e =
 asks_when_used_up : AsksWhenUsedUp
 asks_when_used_up s g s' g' j r p last room fit = by (reached-status r)
   where
-    by : Status s g j s' g' → j.judgement ≡ Open → Used p last (day_taking j p last room)
+    by : Status s g j s' g' → j.judgement ≡ None → Used p last (day_taking j p last room)
     by (settled d e is) o = absurd (not_open (sym o ∙ e))
     by (standing v) o =
         on (tested (sated j))

@@ -1,16 +1,16 @@
 -- What holds of a judge that calls reach: it is as the definition has it, or open, and then all
 -- that was taken of the sheet is as due. Assumes nothing.
+use Rattle.std.specs.Prelude.{Option, None, Some}
 use mathlib.Core.Bool.{Bool, true, false, not, ◌&&◌, ◌||◌}
 use mathlib.Core.Path.{◌≡◌, refl, sym, ap, ap₂, subst, ◌∙◌}
 use mathlib.Core.List.{List, [], ◌∷◌, ◌++◌, append-nil, append_assoc}
-use Prim.Native.Nat.{ℕ, suc, ◌+◌, ◌≤◌, ◌<◌}
+use Prim.Native.Nat.{ℕ, suc, ◌+◌}
 use native.Mathlib.Omega.{arith}
 use borrow.Author.Tests.{lt-ltb, le-ltb, lt-leb, ltb-false}
-use lib.Dec.{leb, ltb, eqb}
+use lib.Dec.{ltb}
 use lib.ListN.{length, drop, length-append}
 use lib.Seq.{drop-append_seam}
-use Rattle.lists.specs.Choice.{choose}
-use Rattle.lists.proofs.Cases.{tested, on, clash, chosen, other, or-true, or_false, and_true, and_right, fst_true, snd_true}
+use Rattle.lists.proofs.Cases.{tested, on, chosen, other, or_false, and_right, fst_true, snd_true}
 use Rattle.day.specs.Sheet.{header, sheet}
 use Rattle.departure.specs.declared.Departure.{Departure}
 use Rattle.departure.specs.declared.Departure.TheVariants.{Same, At}
@@ -19,15 +19,13 @@ use Rattle.departure.specs.Departure.{departure, judged}
 use Rattle.departure.specs.Compare.{line_ends, compared}
 use Rattle.departure.proofs.Lines.{at-end, at-surplus, at-missing, at_other}
 use Rattle.departure.proofs.Comparing.{Way, apart, ends, stops, way, ends-few, ends-append}
-use Rattle.feeding.specs.Fed.{Fed, beginning as freshDay, remaining}
+use Rattle.feeding.specs.Fed.{beginning as freshDay, remaining}
 use Rattle.feeding.proofs.Laws.{laws as fed-laws}
 use Rattle.printer.specs.Print.{print}
 use Rattle.printer.specs.Laws.{Call, answer, Calls, none}
 use Rattle.printer.proofs.Laws.{call-more, laws as print-laws}
-use Rattle.judging.specs.declared.Judgement.{Judgement}
-use Rattle.judging.specs.declared.Judgement.TheVariants.{Open, Decided}
 use Rattle.judging.specs.Bounds.{sheet_limit}
-use Rattle.judging.specs.Judging.{Judging, beginning, is_decided, closed, Taking, nothing, with_print, sated, day_taking, departs, decision, with_compared, sheet_taking}
+use Rattle.judging.specs.Judging.{Judging, beginning, closed, Taking, nothing, with_print, sated, day_taking, departs, decision, with_compared, sheet_taking}
 use Rattle.judging.proofs.Shortness.{sheets_are_short}
 
 pub record Standing (s g : List ℕ) (j : Judging) (s' g' : List ℕ) : Type 0 where
@@ -38,17 +36,17 @@ pub record Standing (s g : List ℕ) (j : Judging) (s' g' : List ℕ) : Type 0 w
   pub due : header ++ printed ≡ taken ++ j.held
   pub found : g ≡ taken ++ g'
   pub lines : j.lines ≡ line_ends taken
-  pub still : j.judgement ≡ Open
+  pub still : j.judgement ≡ None
 
 pub data Status (s g : List ℕ) (j : Judging) (s' g' : List ℕ) : Type 0 where
-  settled : (d : Departure) → j.judgement ≡ Decided d → d ≡ judged s g → Status s g j s' g'
+  settled : (d : Departure) → j.judgement ≡ Some d → d ≡ judged s g → Status s g j s' g'
   standing : Standing s g j s' g' → Status s g j s' g'
 
 pub begun : (s g : List ℕ) → Status s g beginning s g
 unfolding line_ends
 begun s g = standing (record { taken = []; made = []; printed = []; calls = none; due = append-nil header; found = refl; lines = refl; still = refl })
 
-pub decided_closed : {v : Judgement} {d : Departure} (n : ℕ) → v ≡ Decided d → closed v n ≡ true
+pub decided_closed : {v : Option Departure} {d : Departure} (n : ℕ) → v ≡ Some d → closed v n ≡ true
 unfolding closed
 decided_closed n e = rw e refl
 
@@ -119,7 +117,7 @@ module _ {s g : List ℕ} {j : Judging} {s' g' : List ℕ} (v : Standing s g j s
 
     advance :
         (c : Compared) (m : ℕ) (last : Bool) (h b : List ℕ) → j.held ≡ t ++ h → g' ≡ t ++ b → c.bytes ≡ length t → c.lines ≡ line_ends t →
-        (with_compared j m last c).judgement ≡ Open → Standing s g (with_compared j m last c) s' (drop c.bytes g')
+        (with_compared j m last c).judgement ≡ None → Standing s g (with_compared j m last c) s' (drop c.bytes g')
     advance c m last h b eh eb n l o =
         let held : drop c.bytes j.held ≡ h = ap₂ drop n eh ∙ drop-append_seam t h in
         let come : drop c.bytes g' ≡ b = ap₂ drop n eb ∙ drop-append_seam t b in
@@ -136,15 +134,15 @@ module _ {s g : List ℕ} {j : Judging} {s' g' : List ℕ} (v : Standing s g j s
 
 -- ---- what is decided
 
-pub decides_at : {b : Bool} (e : Bool) (k : ℕ) → b ≡ true → decision b e k ≡ Decided (At k)
+pub decides_at : {b : Bool} (e : Bool) (k : ℕ) → b ≡ true → decision b e k ≡ Some (At k)
 unfolding decision
 decides_at e k h = chosen _ h
 
-pub decides_same : {b e : Bool} (k : ℕ) → b ≡ false → e ≡ true → decision b e k ≡ Decided Same
+pub decides_same : {b e : Bool} (k : ℕ) → b ≡ false → e ≡ true → decision b e k ≡ Some Same
 unfolding decision
 decides_same k h t = other _ h ∙ chosen _ t
 
-pub decides_nothing : {b e : Bool} (k : ℕ) → b ≡ false → e ≡ false → decision b e k ≡ Open
+pub decides_nothing : {b e : Bool} (k : ℕ) → b ≡ false → e ≡ false → decision b e k ≡ None
 unfolding decision
 decides_nothing k h t = other _ h ∙ other _ t
 

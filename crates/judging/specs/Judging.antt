@@ -1,5 +1,5 @@
 -- A day and a sheet that come in pieces: what is due, and how far the sheet is as due.
-use Rattle.std.specs.Prelude.{Bool, true, false, not, ◌&&◌, ◌||◌, List, ℕ, suc, ◌+◌, leb, ltb, eqb, length, drop}
+use Rattle.std.specs.Prelude.{Bool, true, false, not, ◌&&◌, ◌||◌, List, ℕ, suc, ◌+◌, leb, ltb, eqb, length, drop, Option, None, Some}
 use Rattle.lists.specs.Choice.{choose}
 use Rattle.day.specs.Sheet.{header}
 use Rattle.departure.specs.declared.Departure.TheVariants.{Same, At}
@@ -7,9 +7,8 @@ use Rattle.departure.specs.declared.Compared.{Compared}
 use Rattle.departure.specs.Compare.{compared}
 use Rattle.feeding.specs.Fed.{Fed, beginning as freshDay}
 use Rattle.printer.specs.Print.{Print, print}
-use Rattle.judging.specs.declared.Judgement.{Judgement}
-use Rattle.judging.specs.declared.Judgement.TheVariants.{Open, Decided}
 use Rattle.judging.specs.Bounds.{sheet_limit}
+use Rattle.departure.specs.declared.Departure.{Departure}
 
 -- what is known of the day, the bytes due that the sheet has not come to, how many lines were as
 -- due, and the judgement
@@ -17,19 +16,19 @@ pub record Judging : Type 0 where
   pub fed : Fed
   pub held : List ℕ
   pub lines : ℕ
-  pub judgement : Judgement
+  pub judgement : Option Departure
 
 -- before the first byte the header is due
 abbrev pub beginning : Judging
-beginning = record { fed = freshDay; held = header; lines = 0; judgement = Open }
+beginning = record { fed = freshDay; held = header; lines = 0; judgement = None }
 
-abbrev pub is_decided : Judgement → Bool
-is_decided Open = false
-is_decided (Decided d) = true
+abbrev pub is_decided : Option Departure → Bool
+is_decided None = false
+is_decided (Some d) = true
 
 -- nothing is taken: it is decided, or more lines were as due than any sheet has, which no calls
 -- reach (`SheetsAreShort`)
-unfoldable pub closed : Judgement → ℕ → Bool
+unfoldable pub closed : Option Departure → ℕ → Bool
 closed v lines = is_decided v || leb sheet_limit lines
 
 -- a piece of the day is asked for: no byte due is held, and its sheet is not over
@@ -67,8 +66,8 @@ abbrev pub departs : Compared → ℕ → ℕ → Bool → Bool → Bool
 departs c n m last over = c.departed || ((ltb c.bytes n && last) || (ltb c.bytes m && over))
 
 -- where it departs line k is the first; else it is the same once both have ended
-unfoldable pub decision : Bool → Bool → ℕ → Judgement
-decision apart ended k = choose apart (Decided (At k)) (choose ended (Decided Same) Open)
+unfoldable pub decision : Bool → Bool → ℕ → Option Departure
+decision apart ended k = choose apart (Some (At k)) (choose ended (Some Same) None)
 
 abbrev pub with_compared : Judging → ℕ → Bool → Compared → Judging
 with_compared j m last c =

@@ -1,13 +1,12 @@
 -- Laws of judging. The contract of `Judge::begin` has them all (`Laws`, below); the proof is `laws`
 -- of proofs/Laws.antt.
-use Rattle.std.specs.Prelude.{Bool, true, false, ◌≡◌, List, [], ◌∷◌, ◌++◌, ◌⊎◌, ℕ, ◌+◌, ◌*◌, ◌≤◌, ◌<◌, length, drop}
+use Rattle.std.specs.Prelude.{Bool, true, false, ◌≡◌, List, [], ◌∷◌, ◌++◌, ◌⊎◌, ℕ, ◌+◌, ◌*◌, ◌≤◌, ◌<◌, length, drop, None, Some}
 use Rattle.day.specs.Sheet.{sheet}
 use Rattle.departure.specs.declared.Departure.{Departure}
 use Rattle.departure.specs.Departure.{judged}
 use Rattle.departure.specs.Compare.{line_ends}
 use Rattle.feeding.specs.Fed.{remaining, waits}
 use Rattle.feeding.specs.Bound.{step_bytes}
-use Rattle.judging.specs.declared.Judgement.TheVariants.{Open, Decided}
 use Rattle.judging.specs.Bounds.{SheetsAreShort}
 use Rattle.judging.specs.Judging.{Judging, beginning, is_decided, asks, Taking, nothing, day_taking, sheet_taking}
 
@@ -55,7 +54,7 @@ SheetMayCome = (s g s' g' p rest : List ℕ) (j : Judging) (last : Bool) → Rea
 
 -- whatever the pieces, the lengths and the interleaving, what is decided is the definition's answer
 abbrev pub EveryWayJudges : Type 0
-EveryWayJudges = (s g s' g' : List ℕ) (j : Judging) → Reached s g j s' g' → (d : Departure) → j.judgement ≡ Decided d → d ≡ judged s g
+EveryWayJudges = (s g s' g' : List ℕ) (j : Judging) → Reached s g j s' g' → (d : Departure) → j.judgement ≡ Some d → d ≡ judged s g
 
 -- and it stays so: nothing more is taken
 abbrev pub DecidedStays : Type 0
@@ -72,14 +71,14 @@ pub record AsDue (s g : List ℕ) (j : Judging) (s' g' : List ℕ) : Type 0 wher
 
 -- while it is open every byte that was taken is as due
 abbrev pub OpenIsAsDue : Type 0
-OpenIsAsDue = (s g s' g' : List ℕ) (j : Judging) → Reached s g j s' g' → j.judgement ≡ Open → AsDue s g j s' g'
+OpenIsAsDue = (s g s' g' : List ℕ) (j : Judging) → Reached s g j s' g' → j.judgement ≡ None → AsDue s g j s' g'
 
 -- after a piece of the sheet it is open and bytes are left, or the sheet has ended, only where no
 -- byte due is held and more may be due
 abbrev pub NoneIsLeft : Type 0
 NoneIsLeft = (s g s' g' : List ℕ) (j : Judging) → Reached s g j s' g' → (p : List ℕ) (last : Bool) →
     let t = sheet_taking j p last in
-    t.judging.judgement ≡ Open → (t.used < length p) ⊎ (last ≡ true) → asks t.judging ≡ true
+    t.judging.judgement ≡ None → (t.used < length p) ⊎ (last ≡ true) → asks t.judging ≡ true
 
 -- after a piece of the day with room for a step it asks for more only where the piece is used up,
 -- is not the last, and no whole line is to be done
@@ -91,7 +90,7 @@ pub record UsedUp (p : List ℕ) (last : Bool) (t : Taking) : Type 0 where
 abbrev pub AsksWhenUsedUp : Type 0
 AsksWhenUsedUp = (s g s' g' : List ℕ) (j : Judging) → Reached s g j s' g' → (p : List ℕ) (last : Bool) (room : ℕ) → step_bytes ≤ room →
     let t = day_taking j p last room in
-    j.judgement ≡ Open → asks t.judging ≡ true → UsedUp p last t
+    j.judgement ≡ None → asks t.judging ≡ true → UsedUp p last t
 
 -- "the sheet to match is the one that ends with that refusal": where it is over, no more of the day
 -- is taken

@@ -5,12 +5,12 @@
 ghost use Rattle.std.specs.Prelude.{◌<◌, ◌≤◌, length, IfOk};
 ghost use Rattle.std.specs.Io.{ReadsAtMost};
 
-use heartbeat::{Heartbeat, HeartbeatAnswer, Rank};
+use heartbeat::{Heartbeat, Rank};
 use refusal::Refusal;
 use std::io::Read;
 use std::{fs, io};
-use text::{Line, LineAnswer, NumberAnswer, Written};
-use timecode::{Timecode, TimecodeAnswer};
+use text::Line;
+use timecode::Timecode;
 
 // ---- the fields of a case
 
@@ -26,8 +26,8 @@ impl Arg {
         ensures { result.n ≤ greatest }
     {
         match text::read_number(field, 0, greatest) {
-            NumberAnswer::Is(n) => Arg { n, good: true },
-            NumberAnswer::Refused(_) => Arg { n: 0, good: false },
+            Ok(n) => Arg { n, good: true },
+            Err(_) => Arg { n: 0, good: false },
         }
     }
 
@@ -64,81 +64,81 @@ fn line_and_more(s: &[u8], more: usize) -> &[u8] {
 
 // ---- answers
 
-fn confused(out: &mut [u8]) -> Written {
+fn confused(out: &mut [u8]) -> Result<usize, Refusal> {
     text::write_bytes(out, 0, b"case?")
 }
 
-fn refused(k: Refusal, out: &mut [u8]) -> Written {
+fn refused(k: Refusal, out: &mut [u8]) -> Result<usize, Refusal> {
     text::write_number(out, 0, k.number() as u64)
 }
 
-fn value(n: u64, out: &mut [u8]) -> Written {
-    let zero = text::write_bytes(out, 0, b"0\t");
-    zero.then_number(out, n)
+fn value(n: u64, out: &mut [u8]) -> Result<usize, Refusal> {
+    let at = text::write_bytes(out, 0, b"0\t")?;
+    text::write_number(out, at, n)
 }
 
-fn also(written: Written, n: u64, out: &mut [u8]) -> Written {
-    let tab = written.then_bytes(out, b"\t");
-    tab.then_number(out, n)
+fn also(written: Result<usize, Refusal>, n: u64, out: &mut [u8]) -> Result<usize, Refusal> {
+    let at = text::write_bytes(out, written?, b"\t")?;
+    text::write_number(out, at, n)
 }
 
-fn yes_or_no(is: bool, out: &mut [u8]) -> Written {
+fn yes_or_no(is: bool, out: &mut [u8]) -> Result<usize, Refusal> {
     value(is as u64, out)
 }
 
-fn number(read: NumberAnswer, out: &mut [u8]) -> Written {
+fn number(read: Result<u64, Refusal>, out: &mut [u8]) -> Result<usize, Refusal> {
     match read {
-        NumberAnswer::Is(n) => value(n, out),
-        NumberAnswer::Refused(k) => refused(k, out),
+        Ok(n) => value(n, out),
+        Err(k) => refused(k, out),
     }
 }
 
-fn timecode(read: TimecodeAnswer, out: &mut [u8]) -> Written {
+fn timecode(read: Result<Timecode, Refusal>, out: &mut [u8]) -> Result<usize, Refusal> {
     match read {
-        TimecodeAnswer::Is(t) => value(t.frame() as u64, out),
-        TimecodeAnswer::Refused(k) => refused(k, out),
+        Ok(t) => value(t.frame() as u64, out),
+        Err(k) => refused(k, out),
     }
 }
 
-fn line(read: LineAnswer, out: &mut [u8]) -> Written {
+fn line(read: Result<Line, Refusal>, out: &mut [u8]) -> Result<usize, Refusal> {
     match read {
-        LineAnswer::Is(l) => value(l.length as u64, out),
-        LineAnswer::Refused(k) => refused(k, out),
+        Ok(l) => value(l.length as u64, out),
+        Err(k) => refused(k, out),
     }
 }
 
-fn values(h: Heartbeat, out: &mut [u8]) -> Written {
+fn values(h: Heartbeat, out: &mut [u8]) -> Result<usize, Refusal> {
     let bs = value(h.bs as u64, out);
     let priority = also(bs, h.priority as u64, out);
     let tiebreaker = also(priority, h.tiebreaker as u64, out);
     also(tiebreaker, h.reveals() as u64, out)
 }
 
-fn heartbeat(read: HeartbeatAnswer, out: &mut [u8]) -> Written {
+fn heartbeat(read: Result<Heartbeat, Refusal>, out: &mut [u8]) -> Result<usize, Refusal> {
     match read {
-        HeartbeatAnswer::Is(h) => values(h, out),
-        HeartbeatAnswer::Refused(k) => refused(k, out),
+        Ok(h) => values(h, out),
+        Err(k) => refused(k, out),
     }
 }
 
-fn place(written: Written, out: &mut [u8]) -> Written {
+fn place(written: Result<usize, Refusal>, out: &mut [u8]) -> Result<usize, Refusal> {
     match written {
-        Written::To(n) => value(n as u64, out),
-        Written::Refused(k) => refused(k, out),
+        Ok(n) => value(n as u64, out),
+        Err(k) => refused(k, out),
     }
 }
 
 // A writer's answer, and the slice as it is now.
-fn wrote(written: Written, slice: &[u8], out: &mut [u8]) -> Written {
-    let answer = place(written, out);
-    let tab = answer.then_bytes(out, b"\t");
-    tab.then_bytes(out, slice)
+fn wrote(written: Result<usize, Refusal>, slice: &[u8], out: &mut [u8]) -> Result<usize, Refusal> {
+    let answer = place(written, out)?;
+    let at = text::write_bytes(out, answer, b"\t")?;
+    text::write_bytes(out, at, slice)
 }
 
 // ---- readers
 
 // n LEAST GREATEST TEXT
-fn read_number(s: &[u8], out: &mut [u8]) -> Written {
+fn read_number(s: &[u8], out: &mut [u8]) -> Result<usize, Refusal> {
     let s2 = text::after_field(s);
     let least = Arg::first(text::first_field(s), u64::MAX);
     let greatest = least.next(text::first_field(s2), u64::MAX);
@@ -151,7 +151,7 @@ fn read_number(s: &[u8], out: &mut [u8]) -> Written {
 }
 
 // f FRAME
-fn of_frame(s: &[u8], out: &mut [u8]) -> Written {
+fn of_frame(s: &[u8], out: &mut [u8]) -> Result<usize, Refusal> {
     let frame = Arg::first(s, u32::MAX as u64);
     if frame.good {
         timecode(Timecode::of_frame(frame.n as u32), out)
@@ -160,7 +160,7 @@ fn of_frame(s: &[u8], out: &mut [u8]) -> Written {
     }
 }
 
-fn read_line(letter: u8, s: &[u8], out: &mut [u8]) -> Written {
+fn read_line(letter: u8, s: &[u8], out: &mut [u8]) -> Result<usize, Refusal> {
     if letter == b'h' {
         heartbeat(Heartbeat::read(s), out)
     } else {
@@ -169,7 +169,7 @@ fn read_line(letter: u8, s: &[u8], out: &mut [u8]) -> Written {
 }
 
 // h MORE TEXT, l MORE TEXT: s goes on to the end of the file.
-fn read_on(letter: u8, s: &[u8], out: &mut [u8]) -> Written {
+fn read_on(letter: u8, s: &[u8], out: &mut [u8]) -> Result<usize, Refusal> {
     let more = Arg::first(text::first_field(s), 2);
     if more.good {
         let asked = line_and_more(text::after_field(s), more.n as usize);
@@ -181,7 +181,7 @@ fn read_on(letter: u8, s: &[u8], out: &mut [u8]) -> Written {
 
 // ---- writers: each into a slice, at a place
 
-fn write_number(s: &[u8], slice: &mut [u8], at: usize, out: &mut [u8]) -> Written {
+fn write_number(s: &[u8], slice: &mut [u8], at: usize, out: &mut [u8]) -> Result<usize, Refusal> {
     let n = Arg::first(s, u64::MAX);
     if n.good {
         let written = text::write_number(slice, at, n.n);
@@ -191,19 +191,20 @@ fn write_number(s: &[u8], slice: &mut [u8], at: usize, out: &mut [u8]) -> Writte
     }
 }
 
-fn write_bytes(s: &[u8], slice: &mut [u8], at: usize, out: &mut [u8]) -> Written {
+fn write_bytes(s: &[u8], slice: &mut [u8], at: usize, out: &mut [u8]) -> Result<usize, Refusal> {
     let written = text::write_bytes(slice, at, s);
     wrote(written, slice, out)
 }
 
-fn write_label(read: TimecodeAnswer, slice: &mut [u8], at: usize) -> Written {
-    match read {
-        TimecodeAnswer::Is(t) => t.write(slice, at),
-        TimecodeAnswer::Refused(k) => Written::Refused(k),
-    }
+fn write_label(
+    read: Result<Timecode, Refusal>,
+    slice: &mut [u8],
+    at: usize,
+) -> Result<usize, Refusal> {
+    read?.write(slice, at)
 }
 
-fn write_timecode(s: &[u8], slice: &mut [u8], at: usize, out: &mut [u8]) -> Written {
+fn write_timecode(s: &[u8], slice: &mut [u8], at: usize, out: &mut [u8]) -> Result<usize, Refusal> {
     let frame = Arg::first(s, u32::MAX as u64);
     if frame.good {
         let written = write_label(Timecode::of_frame(frame.n as u32), slice, at);
@@ -213,7 +214,12 @@ fn write_timecode(s: &[u8], slice: &mut [u8], at: usize, out: &mut [u8]) -> Writ
     }
 }
 
-fn write_heartbeat(s: &[u8], slice: &mut [u8], at: usize, out: &mut [u8]) -> Written {
+fn write_heartbeat(
+    s: &[u8],
+    slice: &mut [u8],
+    at: usize,
+    out: &mut [u8],
+) -> Result<usize, Refusal> {
     let s2 = text::after_field(s);
     let s3 = text::after_field(s2);
     let bs = Arg::first(text::first_field(s), u16::MAX as u64);
@@ -234,7 +240,13 @@ fn write_heartbeat(s: &[u8], slice: &mut [u8], at: usize, out: &mut [u8]) -> Wri
     }
 }
 
-fn write(letter: u8, s: &[u8], slice: &mut [u8], at: usize, out: &mut [u8]) -> Written {
+fn write(
+    letter: u8,
+    s: &[u8],
+    slice: &mut [u8],
+    at: usize,
+    out: &mut [u8],
+) -> Result<usize, Refusal> {
     match letter {
         b'w' => write_number(s, slice, at, out),
         b's' => write_bytes(s, slice, at, out),
@@ -245,7 +257,7 @@ fn write(letter: u8, s: &[u8], slice: &mut [u8], at: usize, out: &mut [u8]) -> W
 
 // w LENGTH AT NUMBER, s LENGTH AT TEXT, g LENGTH AT FRAME, b LENGTH AT BS PRIORITY TIEBREAKER
 // REVEAL
-fn write_into(letter: u8, s: &[u8], out: &mut [u8]) -> Written {
+fn write_into(letter: u8, s: &[u8], out: &mut [u8]) -> Result<usize, Refusal> {
     let s2 = text::after_field(s);
     let length = Arg::first(text::first_field(s), 64);
     let at = length.next(text::first_field(s2), u64::MAX);
@@ -268,7 +280,7 @@ fn write_into(letter: u8, s: &[u8], out: &mut [u8]) -> Written {
 // ---- the others
 
 // r P I Q J
-fn higher(s: &[u8], out: &mut [u8]) -> Written {
+fn higher(s: &[u8], out: &mut [u8]) -> Result<usize, Refusal> {
     let s2 = text::after_field(s);
     let s3 = text::after_field(s2);
     let p = Arg::first(text::first_field(s), u8::MAX as u64);
@@ -291,22 +303,22 @@ fn higher(s: &[u8], out: &mut [u8]) -> Written {
 }
 
 // e A B
-fn same(s: &[u8], out: &mut [u8]) -> Written {
+fn same(s: &[u8], out: &mut [u8]) -> Result<usize, Refusal> {
     yes_or_no(text::same(text::first_field(s), text::after_field(s)), out)
 }
 
-fn refusal(written: Written, k: Refusal, out: &mut [u8]) -> Written {
+fn refusal(written: Result<usize, Refusal>, k: Refusal, out: &mut [u8]) -> Result<usize, Refusal> {
     also(written, k.number() as u64, out)
 }
 
-fn of_lines(written: Written, out: &mut [u8]) -> Written {
+fn of_lines(written: Result<usize, Refusal>, out: &mut [u8]) -> Result<usize, Refusal> {
     let a = refusal(written, Refusal::Form, out);
     let b = refusal(a, Refusal::Number, out);
     let c = refusal(b, Refusal::Timecode, out);
     refusal(c, Refusal::Place, out)
 }
 
-fn of_tables(written: Written, out: &mut [u8]) -> Written {
+fn of_tables(written: Result<usize, Refusal>, out: &mut [u8]) -> Result<usize, Refusal> {
     let a = refusal(written, Refusal::Taken, out);
     let b = refusal(a, Refusal::Servers, out);
     let c = refusal(b, Refusal::Period, out);
@@ -314,7 +326,7 @@ fn of_tables(written: Written, out: &mut [u8]) -> Written {
     refusal(d, Refusal::Short, out)
 }
 
-fn of_states(written: Written, out: &mut [u8]) -> Written {
+fn of_states(written: Result<usize, Refusal>, out: &mut [u8]) -> Result<usize, Refusal> {
     let a = refusal(written, Refusal::Past, out);
     let b = refusal(a, Refusal::Down, out);
     let c = refusal(b, Refusal::Up, out);
@@ -324,7 +336,7 @@ fn of_states(written: Written, out: &mut [u8]) -> Written {
 }
 
 // k
-fn numbers(out: &mut [u8]) -> Written {
+fn numbers(out: &mut [u8]) -> Result<usize, Refusal> {
     let zero = text::write_bytes(out, 0, b"0");
     let lines = of_lines(zero, out);
     let tables = of_tables(lines, out);
@@ -352,7 +364,7 @@ fn fields(letter: u8) -> usize {
 }
 
 // s is the case after its letter, tail the file from there.
-fn ask(letter: u8, s: &[u8], tail: &[u8], out: &mut [u8]) -> Written {
+fn ask(letter: u8, s: &[u8], tail: &[u8], out: &mut [u8]) -> Result<usize, Refusal> {
     match letter {
         b'n' => read_number(s, out),
         b't' => timecode(Timecode::read(s), out),
@@ -367,7 +379,7 @@ fn ask(letter: u8, s: &[u8], tail: &[u8], out: &mut [u8]) -> Written {
     }
 }
 
-fn answer(line: &[u8], tail: &[u8], out: &mut [u8]) -> Written {
+fn answer(line: &[u8], tail: &[u8], out: &mut [u8]) -> Result<usize, Refusal> {
     let kind = letter(line);
     if text::field_count(line) < fields(kind) {
         confused(out)
@@ -376,11 +388,17 @@ fn answer(line: &[u8], tail: &[u8], out: &mut [u8]) -> Written {
     }
 }
 
+// The answer, with a line feed.
+fn answer_line(line: &[u8], tail: &[u8], out: &mut [u8]) -> Result<usize, Refusal> {
+    let said = answer(line, tail, out)?;
+    text::write_bytes(out, said, b"\n")
+}
+
 // Where an answer ends; beyond any buffer if it did not fit.
-fn end(written: Written) -> usize {
+fn end(written: Result<usize, Refusal>) -> usize {
     match written {
-        Written::To(n) => n,
-        Written::Refused(_) => usize::MAX,
+        Ok(n) => n,
+        Err(_) => usize::MAX,
     }
 }
 
@@ -409,8 +427,7 @@ fn one(rt: &impl Print, tail: &[u8]) -> io::Result<usize>
     let n = line_length(tail);
     let start = 0;
     let mut out = [0u8; 256];
-    let said = answer(&tail[start..n], tail, &mut out);
-    let line = said.then_bytes(&mut out, b"\n");
+    let line = answer_line(&tail[start..n], tail, &mut out);
     print(rt, &out, end(line))?;
     Ok(past(n, tail.len()))
 }

@@ -1,4 +1,5 @@
 -- Bytes written where they fit, one piece after the other; the pieces of a line. Assumes nothing.
+use Rattle.std.specs.Prelude.{Result, Ok}
 use mathlib.Core.Path.{◌≡◌, sym, ap, ap₂, ◌∙◌}
 use mathlib.Core.List.{List, ◌++◌, append_assoc, append-nil}
 use Prim.Native.Nat.{ℕ, ◌+◌, ◌-◌, ◌≤◌}
@@ -11,11 +12,10 @@ use Rattle.lists.proofs.Splicing.{splice-length, splices}
 use Rattle.text.specs.Digits.{digits}
 use Rattle.text.specs.Words.{bytes}
 use Rattle.text.specs.Write.{Writes}
-use Rattle.text.specs.declared.Written.{Written}
-use Rattle.text.specs.declared.Written.TheVariants.{To}
 use Rattle.timecode.specs.Label.{label}
 use Rattle.lines.specs.Lines.{line_end, line}
 use Rattle.text.proofs.Writing.{first_piece, writes-to, written-end, written-slice}
+use Rattle.refusal.specs.declared.Refusal.{Refusal}
 
 -- w written over a list of its length
 splice_all : (m w : List ℕ) → length m ≡ length w → splice m 0 w ≡ w
@@ -25,8 +25,8 @@ splice_all m w e =
 
 -- w written into the part of d that it fills
 pub writes-part :
-    {d w y : List ℕ} {at : ℕ} {r : Written} → at + length w ≤ length d → Writes (mid_of at ((at + length w) - at) d) 0 w r y →
-    Writes d at w (To (at + length w)) (put_mid at ((at + length w) - at) d y)
+    {d w y : List ℕ} {at : ℕ} {r : Result ℕ Refusal} → at + length w ≤ length d → Writes (mid_of at ((at + length w) - at) d) 0 w r y →
+    Writes d at w (Ok (at + length w)) (put_mid at ((at + length w) - at) d y)
 writes-part {d} {w} {y} {at} h p =
     let e = at + length w in
     let n : length (mid_of at (e - at) d) ≡ length w = omega (arith, mid_len at e d h) in
@@ -37,14 +37,14 @@ writes-part {d} {w} {y} {at} h p =
     (ap₂ (λ (v z : List ℕ). take at d ++ (v ++ z)) is (Post-is at e d (omega arith)) ∙ sym (append_assoc (take at d) w (drop e d)))
 
 -- v after w: its room, and both
-module _ {d : List ℕ} {at : ℕ} {w : List ℕ} {k : ℕ} {d₁ : List ℕ} (v : List ℕ) (h : at + length (w ++ v) ≤ length d) (p : Writes d at w (To k) d₁) where
+module _ {d : List ℕ} {at : ℕ} {w : List ℕ} {k : ℕ} {d₁ : List ℕ} (v : List ℕ) (h : at + length (w ++ v) ≤ length d) (p : Writes d at w (Ok k) d₁) where
   fits : at + length w ≤ length d
   fits = omega (arith, length-append w v)
 
   pub room : k + length v ≤ length d₁
   room = omega (arith, length-append w v, written-end fits p, ap length (written-slice fits p) ∙ splice-length d at w fits)
 
-  pub then : {r : ℕ} {d₂ : List ℕ} → Writes d₁ k v (To r) d₂ → Writes d at (w ++ v) (To r) d₂
+  pub then : {r : ℕ} {d₂ : List ℕ} → Writes d₁ k v (Ok r) d₂ → Writes d at (w ++ v) (Ok r) d₂
   then q =
       writes-to
       h
@@ -52,7 +52,7 @@ module _ {d : List ℕ} {at : ℕ} {w : List ℕ} {k : ℕ} {d₁ : List ℕ} (v
       (written-slice room q ∙ ap₂ (λ (l : List ℕ) (n : ℕ). splice l n v) (written-slice fits p) (written-end fits p) ∙ splices d at w v h)
 
 -- the pieces of a line: each has room after those before it, and together they are the line
-module _ {d : List ℕ} {at a : ℕ} {d₁ : List ℕ} (t i : ℕ) (w : List ℕ) (h : at + length (line t i w) ≤ length d) (label-put : Writes d at (label t) (To a) d₁) where
+module _ {d : List ℕ} {at a : ℕ} {d₁ : List ℕ} (t i : ℕ) (w : List ℕ) (h : at + length (line t i w) ≤ length d) (label-put : Writes d at (label t) (Ok a) d₁) where
   after-label : a + length (bytes "\t" ++ (digits i ++ line_end w)) ≤ length d₁
   unfolding line
   after-label = room (bytes "\t" ++ (digits i ++ line_end w)) h label-put
@@ -60,18 +60,18 @@ module _ {d : List ℕ} {at a : ℕ} {d₁ : List ℕ} (t i : ℕ) (w : List ℕ
   pub tab-room : a + length (bytes "\t") ≤ length d₁
   tab-room = omega (arith, after-label)
 
-  module _ {b : ℕ} {d₂ : List ℕ} (tab-put : Writes d₁ a (bytes "\t") (To b) d₂) where
+  module _ {b : ℕ} {d₂ : List ℕ} (tab-put : Writes d₁ a (bytes "\t") (Ok b) d₂) where
     after-tab : b + length (digits i ++ line_end w) ≤ length d₂
     after-tab = room (digits i ++ line_end w) after-label tab-put
 
     pub digits-room : b + length (digits i) ≤ length d₂
     digits-room = omega (arith, after-tab, length-append (digits i) (line_end w))
 
-    module _ {c : ℕ} {d₃ : List ℕ} (digits-put : Writes d₂ b (digits i) (To c) d₃) where
+    module _ {c : ℕ} {d₃ : List ℕ} (digits-put : Writes d₂ b (digits i) (Ok c) d₃) where
       pub end-room : c + length (line_end w) ≤ length d₃
       end-room = room (line_end w) after-tab digits-put
 
-      pub line-put : {e : ℕ} {d₄ : List ℕ} → Writes d₃ c (line_end w) (To e) d₄ → Writes d at (line t i w) (To e) d₄
+      pub line-put : {e : ℕ} {d₄ : List ℕ} → Writes d₃ c (line_end w) (Ok e) d₄ → Writes d at (line t i w) (Ok e) d₄
       unfolding line
       line-put end-put =
           then (bytes "\t" ++ (digits i ++ line_end w)) h label-put

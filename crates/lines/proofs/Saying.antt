@@ -1,4 +1,5 @@
 -- Lines that fit are said, others not. Assumes nothing.
+use Rattle.std.specs.Prelude.{Ok}
 use mathlib.Core.Bool.{true, false}
 use mathlib.Core.Path.{◌≡◌, refl, sym, ap, ◌∙◌}
 use mathlib.Core.List.{List, []}
@@ -10,12 +11,11 @@ use Rattle.lists.specs.Splice.{fits}
 use Rattle.lists.proofs.Cases.{chosen, other, same_choice}
 use Rattle.lists.proofs.Splicing.{splice-none}
 use Rattle.text.specs.Write.{room_for, Writes}
-use Rattle.text.specs.declared.Written.TheVariants.{To}
 use Rattle.text.proofs.Writing.{written-end, written-slice}
 use Rattle.lines.specs.Lines.{place_after, Says}
 
 -- written
-pub says : {d : List ℕ} {at : ℕ} {w : List ℕ} {r : ℕ} {d' : List ℕ} → at + length w ≤ length d → Writes d at w (To r) d' → Says true d at w r d'
+pub says : {d : List ℕ} {at : ℕ} {w : List ℕ} {r : ℕ} {d' : List ℕ} → at + length w ≤ length d → Writes d at w (Ok r) d' → Says true d at w r d'
 unfolding place_after
 says h p =
     record {

@@ -11,7 +11,6 @@ ghost use Rattle.lines.specs.Lines.{line_end, line, lines_of, refused_word, refu
 
 use refusal::Refusal;
 use roles::{Said, Word};
-use text::Written;
 use timecode::Timecode;
 
 // No line of an event has more bytes.
@@ -57,28 +56,25 @@ fn said_length(frame: u32, identity: u16, said: Said) -> usize
 // Bytes. Where their number is fixed, the compiler sees that they fit this part of the slice.
 fn put_bytes(out: &mut [u8], at: usize, bytes: &[u8]) -> usize
     requires { at + length bytes.now ≤ length out.old }
-    ensures { Writes out.old at bytes.now (Written.To result) out.new }
+    ensures { Writes out.old at bytes.now (Ok result) out.new }
 {
     let end = at + bytes.len();
-    text::write_bytes(&mut out[at..end], 0, bytes);
+    out[at..end].copy_from_slice(bytes);
     end
 }
 
 // A number, by the digit writer of `text`.
 fn put_number(out: &mut [u8], at: usize, n: u16) -> usize
     requires { at + length (digits n) ≤ length out.old }
-    ensures { Writes out.old at (digits n) (Written.To result) out.new }
+    ensures { Writes out.old at (digits n) (Ok result) out.new }
 {
-    match text::write_number(out, at, n as u64) {
-        Written::To(end) => end,
-        Written::Refused(_) => at,
-    }
+    text::write_number(out, at, n as u64).unwrap()
 }
 
 // The tab, the word and the line feed.
 fn put_end(out: &mut [u8], at: usize, word: Word) -> usize
     requires { at + length (line_end (word_bytes word)) ≤ length out.old }
-    ensures { Writes out.old at (line_end (word_bytes word)) (Written.To result) out.new }
+    ensures { Writes out.old at (line_end (word_bytes word)) (Ok result) out.new }
 {
     match word {
         Word::Sync => put_bytes(out, at, b"\tsync\n"),
@@ -98,7 +94,7 @@ fn put_end(out: &mut [u8], at: usize, word: Word) -> usize
 
 fn put_line(out: &mut [u8], at: usize, frame: u32, identity: u16, word: Word) -> usize
     requires { at + length (line frame identity (word_bytes word)) ≤ length out.old }
-    ensures { Writes out.old at (line frame identity (word_bytes word)) (Written.To result) out.new }
+    ensures { Writes out.old at (line frame identity (word_bytes word)) (Ok result) out.new }
 {
     let label = Timecode::label_of(frame);
     let a = put_bytes(out, at, &label);
@@ -109,7 +105,7 @@ fn put_line(out: &mut [u8], at: usize, frame: u32, identity: u16, word: Word) ->
 
 fn put_two(out: &mut [u8], at: usize, frame: u32, identity: u16, v: Word, w: Word) -> usize
     requires { at + length (line frame identity (word_bytes v) ++ line frame identity (word_bytes w)) ≤ length out.old }
-    ensures { Writes out.old at (line frame identity (word_bytes v) ++ line frame identity (word_bytes w)) (Written.To result) out.new }
+    ensures { Writes out.old at (line frame identity (word_bytes v) ++ line frame identity (word_bytes w)) (Ok result) out.new }
 {
     let next = put_line(out, at, frame, identity, v);
     put_line(out, next, frame, identity, w)
@@ -182,26 +178,31 @@ fn refused_length(identity: u16, n: u8) -> usize
     text::width(identity as u64) + text::width(n as u64) + 22
 }
 
-fn put_refused(out: &mut [u8], frame: u32, identity: u16, n: u8) -> Written
+fn put_refused(out: &mut [u8], frame: u32, identity: u16, n: u8) -> Result<usize, Refusal>
     ensures { Pieces out.old 0 (line frame identity (refused_word n)) result out.new }
 {
     let label = Timecode::label_of(frame);
-    let a = text::write_bytes(out, 0, &label);
-    let b = a.then_bytes(out, b"\t");
-    let c = b.then_number(out, identity as u64);
-    let d = c.then_bytes(out, b"\trefused-");
-    let e = d.then_number(out, n as u64);
-    e.then_bytes(out, b"\n")
+    let time = text::write_bytes(out, 0, &label)?;
+    let tab = text::write_bytes(out, time, b"\t")?;
+    let server = text::write_number(out, tab, identity as u64)?;
+    let word = text::write_bytes(out, server, b"\trefused-")?;
+    let number = text::write_number(out, word, n as u64)?;
+    text::write_bytes(out, number, b"\n")
 }
 
 // The line of a refused call of a server, at the slice's start; 9.
-pub fn write_refused(out: &mut [u8], frame: u32, identity: u16, refusal: Refusal) -> Written
+pub fn write_refused(
+    out: &mut [u8],
+    frame: u32,
+    identity: u16,
+    refusal: Refusal,
+) -> Result<usize, Refusal>
     ensures { Writes out.old 0 (refused_line frame identity refusal) result out.new }
 {
     let n = refusal.number();
     if text::fits(out.len(), 0, refused_length(identity, n)) {
         put_refused(out, frame, identity, n)
     } else {
-        Written::Refused(Refusal::Short)
+        Err(Refusal::Short)
     }
 }

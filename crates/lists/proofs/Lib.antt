@@ -6,6 +6,4 @@ pub mod MapLoop
 pub mod FindLoop
 pub mod AnyLoop
 pub mod SameLoop
-pub mod CountLoop
-pub mod EachLoop
 pub mod Clear

@@ -1,15 +1,14 @@
 -- The period, and the limits that it sets.
-use Rattle.std.specs.Prelude.{◌&&◌, [], ◌∷◌, ℕ, ◌*◌, leb}
+use Rattle.std.specs.Prelude.{◌&&◌, [], ◌∷◌, ℕ, ◌*◌, leb, Result, Ok, Err}
 use Rattle.lists.specs.Choice.{choose}
 use Rattle.refusal.specs.Answer.{Answer, accepted, refused, number_of}
 use Rattle.periods.specs.declared.Period.{Period}
-use Rattle.periods.specs.declared.PeriodAnswer.{PeriodAnswer}
-use Rattle.periods.specs.declared.PeriodAnswer.TheVariants.{Is, Refused}
+use Rattle.refusal.specs.declared.Refusal.{Refusal}
 
 -- the number and the values of the answer: the frames of the period
-abbrev pub of_period : PeriodAnswer → Answer
-of_period (Is p) = accepted (p.frames ∷ [])
-of_period (Refused r) = refused (number_of r)
+abbrev pub of_period : Result Period Refusal → Answer
+of_period (Ok p) = accepted (p.frames ∷ [])
+of_period (Err r) = refused (number_of r)
 
 -- "P is the period in frames, 2..250"
 abbrev pub least_period : ℕ

@@ -13,29 +13,22 @@ pub struct Period {
     frames: u8,
 }
 
-// A period, or 2.
-#[derive(Clone, Copy)]
-pub enum PeriodAnswer {
-    Is(Period),
-    Refused(Refusal),
-}
-
 impl Period {
     // The shortest and the longest period.
     pub const MIN: u32 = 2;
 
     pub const MAX: u32 = 250;
 
-    pub fn of(frames: u32) -> PeriodAnswer
+    pub fn of(frames: u32) -> Result<Period, Refusal>
         ensures { of_period result ≡ take_period frames }
     {
         if frames < Period::MIN {
-            return PeriodAnswer::Refused(Refusal::Number);
+            return Err(Refusal::Number);
         }
         if frames > Period::MAX {
-            return PeriodAnswer::Refused(Refusal::Number);
+            return Err(Refusal::Number);
         }
-        PeriodAnswer::Is(Period {
+        Ok(Period {
             frames: frames as u8,
         })
     }

@@ -1,5 +1,5 @@
 -- Servers as numbers: what is stored is read again, and nothing else is changed. Assumes nothing.
-use mathlib.Core.Bool.{Bool, true, false, not}
+use mathlib.Core.Bool.{Bool, true}
 use mathlib.Core.Path.{◌≡◌, refl, sym, ap, ap₂, ◌∙◌}
 use mathlib.Core.Logic.{⊎_elim, ◌≢◌}
 use mathlib.Core.List.{List, [], ◌∷◌, ◌++◌}
@@ -284,35 +284,6 @@ module _ (w : List ℕ) (i v : ℕ) (long : length w ≡ 80) (h : i < 16) where
         get_or-set_other w (5 * i + 2) (5 * i + 4) v 0 (λ z. omega arith),
         at_of w i absent h,
       ) refl)
-
--- ---- lists copied one by one: the first i of m are those of l
-
-pub record Alike (m l : List Server) (i : ℕ) : Type 0 where
-  pub room : length m ≡ 16
-  pub long : length l ≡ 16
-  pub same : (k : ℕ) → k < i → get_or m k absent ≡ get_or l k absent
-
-pub alike-begin : {m l : List Server} → length m ≡ 16 → length l ≡ 16 → Alike m l 0
-alike-begin e f = record { room = e; long = f; same = λ k h. absurd (omega arith) }
-
-pub alike-turn : {m l : List Server} {i : ℕ} {s : Server} → Alike m l i → i < 16 → s ≡ get_or l i absent → Alike (set m i s) l (i + 1)
-alike-turn {m} {l} {i} {s} v h e =
-    record {
-      room = length-set m i s ∙ v.room;
-      long = v.long;
-      same =
-          λ k g.
-          ⊎_elim
-          (λ q. rw q (get_or-set_same m i s absent (omega (arith, v.room)) ∙ e))
-          (λ q. get_or-set_other m i k s absent q ∙ v.same k (below k g q))
-          (equal k i);
-    }
-  where
-    below : (k : ℕ) → k < i + 1 → (k ≡ i → ⊥) → k < i
-    below k g q = ⊎_elim (λ l. l) (λ l. absurd (q (omega arith))) (less k i)
-
-pub alike_end : {m l : List Server} {i : ℕ} → Alike m l i → 16 ≤ i → m ≡ l
-alike_end {m} {l} {i} v h = ext_get_or absent m l (v.room ∙ sym v.long) (λ k g. v.same k (omega (arith, v.room)))
 
 -- ---- the numbers of servers
 

@@ -15,6 +15,7 @@ ghost use Rattle.places.specs.Order.{hears_at, rank_end, rank_under, no_best, be
 use group::{Links, Servers, Table};
 use roles::Role;
 use server::Server;
+use std::array;
 
 // ---- roles
 
@@ -198,10 +199,8 @@ pub fn words_of(servers: Servers) -> Packed
     ensures { Packs servers result }
 {
     let mut words: Packed = [0; PACKED];
-    let mut i: usize = 0;
-    while i < Table::SERVERS {
-        store(&mut words, i, servers[i]);
-        i += 1;
+    for (i, s) in servers.iter().enumerate() {
+        store(&mut words, i, *s);
     }
     words
 }
@@ -210,15 +209,7 @@ pub fn words_of(servers: Servers) -> Packed
 pub fn servers_of(words: &Packed) -> Servers
     ensures { result ≡ servers_of words.now }
 {
-    let nobody = Server::absent();
-    let mut servers = [nobody; Table::SERVERS];
-    let mut i: usize = 0;
-    while i < Table::SERVERS {
-        let s = server_at(words, i);
-        servers[i] = s;
-        i += 1;
-    }
-    servers
+    array::from_fn(|i| server_at(words, i))
 }
 
 // The server of place i; nobody beyond the last place.
@@ -255,15 +246,13 @@ pub fn put(words: &mut Packed, i: usize, s: Server)
 pub fn place_in(words: &Packed, identity: u16) -> usize
     ensures { result ≡ place_in (servers_of words.now) identity }
 {
-    let mut i: usize = 0;
-    while i < Table::SERVERS {
+    for i in 0..Table::SERVERS {
         let s = server_at(words, i);
         if group::named(identity, s) {
             return i;
         }
-        i += 1;
     }
-    i
+    Table::SERVERS
 }
 
 // ---- who hears whom, and who comes first

@@ -11,10 +11,11 @@ ghost use Rattle.plain.specs.Plain.{plain_bit, bit_of, is_server, server_of, pla
 use front::Front;
 use group::{Links, Servers, State, Table};
 use heartbeat::Heartbeat;
-use periods::{Period, PeriodAnswer};
-use refusal::{Refusal, Verdict};
+use periods::Period;
+use refusal::Refusal;
 use roles::{Event, Verb};
 use server::Server;
+use std::array;
 
 // One server. `role` is 0 down, 1 idle, 2 sync, 3 backup, 4 prospect, 5 primary. `silence`, `beat`
 // and `prospect` are the frames in which its timers were set. `pass`, `beats` and `reveal` are what
@@ -189,12 +190,12 @@ pub fn refusal_of(n: u32) -> Refusal
 }
 
 // The number of a verdict, 0 where the call is accepted.
-pub fn verdict_number(verdict: Verdict) -> u32
+pub fn verdict_number(verdict: Result<(), Refusal>) -> u32
     ensures { result ≡ of_verdict verdict }
 {
     match verdict {
-        Verdict::Accepted => 0,
-        Verdict::Refused(k) => k.number() as u32,
+        Ok(()) => 0,
+        Err(k) => k.number() as u32,
     }
 }
 
@@ -210,8 +211,8 @@ fn period_of(n: u32) -> Period
     ensures { result ≡ period_of n }
 {
     match Period::of(n) {
-        PeriodAnswer::Is(p) => p,
-        PeriodAnswer::Refused(_) => Period::shortest(),
+        Ok(p) => p,
+        Err(_) => Period::shortest(),
     }
 }
 
@@ -377,45 +378,19 @@ pub fn no_heartbeat() -> PlainHeartbeat
 fn are_servers(servers: [PlainServer; Table::SERVERS]) -> bool
     ensures { result ≡ every is_server servers }
 {
-    let mut i: usize = 0;
-    while i < Table::SERVERS {
-        let p = servers[i];
-        if !is_server(p) {
-            return false;
-        }
-        i += 1;
-    }
-    true
+    servers.iter().all(|p| is_server(*p))
 }
 
 fn servers_of(servers: [PlainServer; Table::SERVERS]) -> Servers
     ensures { result ≡ map server_of servers }
 {
-    let nobody = Server::absent();
-    let mut next = [nobody; Table::SERVERS];
-    let mut i: usize = 0;
-    while i < Table::SERVERS {
-        let p = servers[i];
-        let s = server_of(p);
-        next[i] = s;
-        i += 1;
-    }
-    next
+    array::from_fn(|i| server_of(servers[i]))
 }
 
 fn plain_servers(servers: Servers) -> [PlainServer; Table::SERVERS]
     ensures { result ≡ map plain_server servers }
 {
-    let nobody = no_server();
-    let mut next = [nobody; Table::SERVERS];
-    let mut i: usize = 0;
-    while i < Table::SERVERS {
-        let s = servers[i];
-        let p = plain_server(s);
-        next[i] = p;
-        i += 1;
-    }
-    next
+    array::from_fn(|i| plain_server(servers[i]))
 }
 
 // ---- links
@@ -423,38 +398,19 @@ fn plain_servers(servers: Servers) -> [PlainServer; Table::SERVERS]
 fn are_bits(whole: [u8; Table::LINKS]) -> bool
     ensures { result ≡ every is_bit whole }
 {
-    let mut i: usize = 0;
-    while i < Table::LINKS {
-        if !is_bit(whole[i]) {
-            return false;
-        }
-        i += 1;
-    }
-    true
+    whole.iter().all(|n| is_bit(*n))
 }
 
 fn links_of(whole: [u8; Table::LINKS]) -> Links
     ensures { result ≡ map bit_of whole }
 {
-    let mut next = [false; Table::LINKS];
-    let mut i: usize = 0;
-    while i < Table::LINKS {
-        next[i] = whole[i] == 1;
-        i += 1;
-    }
-    next
+    array::from_fn(|i| whole[i] == 1)
 }
 
 fn plain_links(whole: Links) -> [u8; Table::LINKS]
     ensures { result ≡ map plain_bit whole }
 {
-    let mut next = [0; Table::LINKS];
-    let mut i: usize = 0;
-    while i < Table::LINKS {
-        next[i] = bit(whole[i]);
-        i += 1;
-    }
-    next
+    array::from_fn(|i| bit(whole[i]))
 }
 
 // ---- a table

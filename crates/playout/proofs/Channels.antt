@@ -1,4 +1,5 @@
 -- Tables and channels, from what they stand for. Assumes nothing.
+use Rattle.std.specs.Prelude.{Result}
 use mathlib.Core.Bool.{Bool, true, false}
 use mathlib.Core.List.{List}
 use mathlib.Core.Path.{◌≡◌, refl, sym, ap, subst, ◌∙◌}
@@ -9,7 +10,6 @@ use lib.ListN.{length}
 use borrow.Author.Tests.{eq-eqb, ne_eqb}
 use Rattle.lists.specs.Choice.{choose}
 use Rattle.lists.proofs.Cases.{chosen, other}
-use Rattle.refusal.specs.declared.Verdict.{Verdict}
 use Rattle.refusal.specs.Answer.{of_verdict}
 use Rattle.group.specs.declared.State.{State}
 use Rattle.group.specs.Table.{add_refusal, added, fresh_refusal, fresh}
@@ -26,6 +26,7 @@ use Rattle.playout.specs.Front.{ill}
 use Rattle.playout.specs.Channel.{add_number, Adds, fresh_number, Opens, checked, Answers}
 use Rattle.playout.specs.Steps.{AddsWell, opened_as, OpensWell, unanswered}
 use Rattle.playout.proofs.Choices.{through, by_number}
+use Rattle.refusal.specs.declared.Refusal.{Refusal}
 
 -- ---- a table
 
@@ -84,7 +85,7 @@ module _ (p : PlainTable) (n : ℕ) where
 
 -- what a call gives on the state s, which p stands for
 pub gives_of :
-    (p : PlainChannel) (f : State → Outcome) {s : State} {d : List ℕ} {v : Verdict} {n : ℕ} {x : State} {d' : List ℕ} →
+    (p : PlainChannel) (f : State → Outcome) {s : State} {d : List ℕ} {v : Result (Unit {0}) Refusal} {n : ℕ} {x : State} {d' : List ℕ} →
     s ≡ channel_of p → Gives s (f s) d v n x d' → Gives (channel_of p) (f (channel_of p)) d v n x d'
 gives_of p f {s} {d} {v} {n} {x} {d'} e g = subst (λ (z : State). Gives z (f z) d v n x d') e g
 
@@ -94,7 +95,7 @@ module _ (ok : Bool) (p : PlainChannel) (o : Outcome) (d : List ℕ) where
   same e = ap (λ (k : ℕ). record { number = k; lines = o.lines; channel = o.channel }) (chosen _ e)
 
   pub answers_well :
-      (v : Verdict) (n : ℕ) (x : State) (d' : List ℕ) → ok ≡ true → is_channel p ≡ true → Gives (channel_of p) o d v n x d' →
+      (v : Result (Unit {0}) Refusal) (n : ℕ) (x : State) (d' : List ℕ) → ok ≡ true → is_channel p ≡ true → Gives (channel_of p) o d v n x d' →
       Answers ok p o d (record { number = of_verdict v; written = n; channel = plain_channel x }) d'
   unfolding channel_in
   answers_well v n x d' e f g =

@@ -1,4 +1,5 @@
 -- The steps of a plain front, from those of the front that it stands for. Assumes nothing.
+use Rattle.std.specs.Prelude.{Result}
 use mathlib.Core.Bool.{true, false, not, ◌&&◌}
 use mathlib.Core.Path.{◌≡◌, refl, sym, ap, ap₂, subst, ◌∙◌}
 use mathlib.Core.Logic.{◌⊎◌, inl, inr}
@@ -8,7 +9,6 @@ use borrow.Author.Tests.{ne_eqb}
 use lib.Dec.{eqb}
 use Rattle.lists.specs.Choice.{choose}
 use Rattle.lists.proofs.Cases.{tested, chosen, other, fst_true}
-use Rattle.refusal.specs.declared.Verdict.{Verdict}
 use Rattle.refusal.specs.Answer.{of_verdict}
 use Rattle.roles.specs.declared.Verb.{Verb}
 use Rattle.roles.specs.declared.Event.{Event}
@@ -33,6 +33,7 @@ use Rattle.playout.specs.declared.AfterVerb.{AfterVerb}
 use Rattle.playout.specs.Front.{ill, front_made, begin_number, Begins, not_heard, Hears, not_timed, Ticks, after_verb, act_number, Acts}
 use Rattle.playout.specs.Steps.{made_of, BeginsWell, hears_well, ticks_well, acted_as, ActsWell}
 use Rattle.playout.proofs.Choices.{through, by_number}
+use Rattle.refusal.specs.declared.Refusal.{Refusal}
 
 pub front-made : (i q n : ℕ) → made_of (take_front i q n) ≡ front_made i q n
 unfolding take_front front_made
@@ -45,7 +46,7 @@ module _ (p : PlainFront) where
   unfolding begin_number
   begin-number e = chosen _ e
 
-  pub begin-of : (r : AfterBegin) {f f' : Front} {v : Verdict} → f ≡ front_of p → FrontBegins f v f' → r.answer ≡ of_verdict v → r.front ≡ plain_front f' → BeginsWell p r
+  pub begin-of : (r : AfterBegin) {f f' : Front} {v : Result (Unit {0}) Refusal} → f ≡ front_of p → FrontBegins f v f' → r.answer ≡ of_verdict v → r.front ≡ plain_front f' → BeginsWell p r
   begin-of r e g a b =
       record {
         number = a ∙ g.number ∙ ap (λ (f : Front). choose (goes_on f) 0 16) e;

@@ -1,4 +1,5 @@
 -- What was written, from what the engine's writers answer. Assumes nothing.
+use Rattle.std.specs.Prelude.{Result}
 use mathlib.Core.Bool.{Bool, true, false, ◌&&◌}
 use mathlib.Core.List.{List, [], ◌∷◌}
 use mathlib.Core.Path.{◌≡◌, sym, ap, ap₂, subst, ◌∙◌}
@@ -13,18 +14,18 @@ use Rattle.lists.specs.Splice.{fits}
 use Rattle.lists.proofs.Cases.{tested, chosen, other}
 use Rattle.lists.proofs.Splicing.{splice-length}
 use Rattle.refusal.specs.Answer.{accepted, refused}
-use Rattle.text.specs.declared.Written.{Written}
 use Rattle.text.specs.Write.{of_written, writing, wrote, Writes, WritesIf}
 use Rattle.lines.specs.Lines.{place_after, Says}
 use Rattle.playout.specs.declared.PlainWritten.{PlainWritten}
 use Rattle.playout.specs.Writing.{written_of, Puts, PutsIf}
 use Rattle.playout.specs.Steps.{written_to}
+use Rattle.refusal.specs.declared.Refusal.{Refusal}
 
 module _ {d w d' : List ℕ} {r : PlainWritten} where
-  pub puts : {x : Written} → Writes d 0 w x d' → r ≡ written_of (of_written x) → Puts d w r d'
+  pub puts : {x : Result ℕ Refusal} → Writes d 0 w x d' → r ≡ written_of (of_written x) → Puts d w r d'
   puts q e = record { answer = e ∙ ap written_of q.answer; slice = q.slice }
 
-  pub puts_if : {x : Written} {ok : Bool} {k : ℕ} → WritesIf ok k d 0 w x d' → r ≡ written_of (of_written x) → PutsIf ok k d w r d'
+  pub puts_if : {x : Result ℕ Refusal} {ok : Bool} {k : ℕ} → WritesIf ok k d 0 w x d' → r ≡ written_of (of_written x) → PutsIf ok k d w r d'
   puts_if q e = record { answer = e ∙ ap written_of q.answer; slice = q.slice }
 
   pub puts_yes : {ok : Bool} (k : ℕ) → ok ≡ true → Puts d w r d' → PutsIf ok k d w r d'

@@ -30,14 +30,14 @@ ghost use Rattle.playout.specs.Laws.{Empties};
 ghost use Rattle.playout.specs.Steps.{made_of, BeginsWell, hears_well, ticks_well, acted_as, ActsWell, written_to, AddsWell, opened_as, OpensWell, answered, unanswered};
 
 use channel::{Answer, Channel};
-use front::FrontAnswer;
+use front::Front;
 use group::{State, Table};
-use heartbeat::{Heartbeat, HeartbeatAnswer};
+use heartbeat::Heartbeat;
 use plain::{PlainChannel, PlainFront, PlainHeartbeat, PlainTable};
+use refusal::Refusal;
 use roles::Event;
 use server::Server;
-use text::Written;
-use timecode::{Timecode, TimecodeAnswer};
+use timecode::Timecode;
 
 // A front. `number` is 0 where it is accepted, else the refusal's, and the front is zeros.
 #[repr(C)]
@@ -204,15 +204,15 @@ pub fn playout_version() -> u32
 
 // ---- a front made
 
-fn made_of(answer: FrontAnswer) -> FrontMade
+fn made_of(answer: Result<Front, Refusal>) -> FrontMade
     ensures { result ≡ made_of (of_front answer) }
 {
     match answer {
-        FrontAnswer::Is(f) => {
+        Ok(f) => {
             let front = plain::plain_front(f);
             FrontMade { number: 0, front }
         }
-        FrontAnswer::Refused(k) => {
+        Err(k) => {
             let front = plain::no_front();
             FrontMade {
                 number: k.number() as u32,
@@ -229,7 +229,7 @@ fn made_of(answer: FrontAnswer) -> FrontMade
 pub fn playout_front_new(identity: u16, priority: u8, period: u32) -> FrontMade
     ensures { result ≡ front_made identity priority period }
 {
-    made_of(front::Front::new(identity, priority, period))
+    made_of(Front::new(identity, priority, period))
 }
 
 // ---- the steps of a front, by value
@@ -519,15 +519,15 @@ pub fn playout_front_sends(front: PlainFront, event: u32, to: u16) -> Sending
     }
 }
 
-fn written_of(written: Written) -> PlainWritten
+fn written_of(written: Result<usize, Refusal>) -> PlainWritten
     ensures { result ≡ written_of (of_written written) }
 {
     match written {
-        Written::To(n) => PlainWritten {
+        Ok(n) => PlainWritten {
             number: 0,
             written: n,
         },
-        Written::Refused(k) => PlainWritten {
+        Err(k) => PlainWritten {
             number: k.number() as u32,
             written: 0,
         },
@@ -617,18 +617,18 @@ pub fn playout_higher(a: PlainHeartbeat, b: PlainHeartbeat) -> u32
     plain::bit(first.higher(second)) as u32
 }
 
-fn heartbeat_read_of(answer: HeartbeatAnswer) -> HeartbeatRead
+fn heartbeat_read_of(answer: Result<Heartbeat, Refusal>) -> HeartbeatRead
     ensures { result ≡ heartbeat_read (of_heartbeat answer) }
 {
     match answer {
-        HeartbeatAnswer::Is(h) => {
+        Ok(h) => {
             let heartbeat = plain::plain_heartbeat(h);
             HeartbeatRead {
                 number: 0,
                 heartbeat,
             }
         }
-        HeartbeatAnswer::Refused(k) => {
+        Err(k) => {
             let heartbeat = plain::no_heartbeat();
             HeartbeatRead {
                 number: k.number() as u32,
@@ -654,15 +654,15 @@ pub fn playout_heartbeat_write(heartbeat: PlainHeartbeat, out: &mut [u8]) -> Pla
     written_of(plain::heartbeat_of(heartbeat).write(out, 0))
 }
 
-fn timecode_read_of(answer: TimecodeAnswer) -> TimecodeRead
+fn timecode_read_of(answer: Result<Timecode, Refusal>) -> TimecodeRead
     ensures { result ≡ timecode_read (of_timecode answer) }
 {
     match answer {
-        TimecodeAnswer::Is(t) => TimecodeRead {
+        Ok(t) => TimecodeRead {
             number: 0,
             frame: t.frame(),
         },
-        TimecodeAnswer::Refused(k) => TimecodeRead {
+        Err(k) => TimecodeRead {
             number: k.number() as u32,
             frame: 0,
         },
@@ -683,8 +683,8 @@ pub fn playout_timecode_write(frame: u32, out: &mut [u8]) -> PlainWritten
     ensures { PutsIf (in_day frame) 3 out.old (label frame) result out.new }
 {
     match Timecode::of_frame(frame) {
-        TimecodeAnswer::Is(time) => written_of(time.write(out, 0)),
-        TimecodeAnswer::Refused(k) => written_of(Written::Refused(k)),
+        Ok(time) => written_of(time.write(out, 0)),
+        Err(k) => written_of(Err(k)),
     }
 }
 

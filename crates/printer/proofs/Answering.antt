@@ -1,4 +1,5 @@
 -- What a call answers. Assumes nothing.
+use Rattle.std.specs.Prelude.{Result}
 use mathlib.Core.Bool.{Bool, true}
 use mathlib.Core.Path.{◌≡◌, refl, sym, ap, ap₂, subst, ◌∙◌}
 use mathlib.Core.List.{List, [], ◌∷◌}
@@ -11,7 +12,6 @@ use Rattle.lists.proofs.Cases.{tested, on, other}
 use Rattle.lists.proofs.Splicing.{splice-none}
 use Rattle.refusal.specs.Answer.{accepted, refused}
 use Rattle.refusal.proofs.Answers.{not-both}
-use Rattle.text.specs.declared.Written.{Written}
 use Rattle.text.specs.Write.{of_written}
 use Rattle.feeding.specs.Fed.{Fed}
 use Rattle.printer.specs.declared.Ran.{Ran}
@@ -24,6 +24,7 @@ use Rattle.printer.specs.Steps.{Runs, RunsIn}
 use Rattle.printer.proofs.Printing.{stays_within}
 use Rattle.printer.proofs.Laws.{laws}
 use Rattle.printer.proofs.Leaving.{leaves_none}
+use Rattle.refusal.specs.declared.Refusal.{Refusal}
 
 module _ {f : Fed} {s : List ℕ} {last : Bool} {d : List ℕ} {r : Printed} {f' : Fed} {d' : List ℕ} where
   answered : {q : Ran} → Runs f s last d q f' d' → of_written r.written ≡ choose q.short (refused 9) (accepted (q.wrote ∷ [])) → r.used ≡ q.used → r.over ≡ f'.over → Prints f s last d r f' d'
@@ -60,7 +61,7 @@ module _ {x : Feed} {l w : List ℕ} {k : List Bool} {s : List ℕ} {last : Bool
       let now : Leaves x w k 0 f x w k = leaves_none l in
       (then.feed ∙ sym now.feed, v.line ∙ ap (λ (p : Print). p.line l) is, v.same b, then.links ∙ sym now.links, v.runs.out ∙ ap (λ (p : Print). splice d 0 p.lines) is ∙ splice-none d 0)
 
-  pub answered_in : {p : Written} {o : Bool} → of_written p ≡ choose q.short (refused 9) (accepted (q.wrote ∷ [])) → o ≡ q.feed.over → PrintsIn x l w k s last d (record { written = p; used = q.used; over = o; feed = q.feed }) l' w' k' d'
+  pub answered_in : {p : Result ℕ Refusal} {o : Bool} → of_written p ≡ choose q.short (refused 9) (accepted (q.wrote ∷ [])) → o ≡ q.feed.over → PrintsIn x l w k s last d (record { written = p; used = q.used; over = o; feed = q.feed }) l' w' k' d'
   answered_in {p} {o} a b =
       record {
         prints = answered v.runs a refl b;

@@ -1,4 +1,5 @@
 -- What turns leave of a feed and of what is lent to it. Assumes nothing.
+use Rattle.std.specs.Prelude.{Result, Ok, Err}
 use mathlib.Core.Bool.{Bool, true, false, not, ◌&&◌}
 use mathlib.Core.Path.{◌≡◌, refl, sym, ap, subst, ◌∙◌}
 use mathlib.Core.List.{List}
@@ -10,8 +11,6 @@ use lib.ListN.{length}
 use Rattle.lists.specs.Choice.{choose}
 use Rattle.lists.proofs.Cases.{less, equal, tested, on, clash, chosen, other}
 use Rattle.refusal.specs.declared.Refusal.{Refusal}
-use Rattle.text.specs.declared.Written.{Written}
-use Rattle.text.specs.declared.Written.TheVariants.{To, Refused}
 use Rattle.group.specs.declared.State.{State}
 use Rattle.places.specs.Words.{words_of, Canonical}
 use Rattle.feeding.specs.Fed.{Fed}
@@ -36,9 +35,9 @@ pub leaves_as : {x : Feed} {w : List ℕ} {k : List Bool} {n : ℕ} {f g : Fed} 
 leaves_as {x} {w} {k} {n} {f} {g} {x'} {w'} {k'} e q = subst (λ (h : Fed). Leaves x w k n h x' w' k') (sym e) q
 
 -- a write that was refused did nothing
-pub short-same : {A : Type 0} (p : Written) {l : Put} → l ≡ put_by p → ((n : Refusal) → p ≡ Refused n → A) → l.fits ≡ false → A
-short-same (To n) e h z = absurd (clash (ap (λ (x : Put). x.fits) e) z)
-short-same (Refused k) e h z = h k refl
+pub short-same : {A : Type 0} (p : Result ℕ Refusal) {l : Put} → l ≡ put_by p → ((n : Refusal) → p ≡ Err n → A) → l.fits ≡ false → A
+short-same (Ok n) e h z = absurd (clash (ap (λ (x : Put). x.fits) e) z)
+short-same (Err k) e h z = h k refl
 
 -- ---- one after the other
 

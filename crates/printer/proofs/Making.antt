@@ -1,4 +1,5 @@
 -- What a turn is made of. Assumes nothing.
+use Rattle.std.specs.Prelude.{Result, Ok, Err}
 use mathlib.Core.Bool.{Bool, true, false, not, ◌&&◌, ◌||◌}
 use mathlib.Core.Path.{◌≡◌, refl, sym, ap, subst, ◌∙◌}
 use mathlib.Core.List.{List, [], ◌∷◌}
@@ -9,8 +10,6 @@ use lib.ListN.{length}
 use Rattle.lists.specs.Splice.{splice}
 use Rattle.lists.proofs.Cases.{clash, chosen, by_choice, and_true, or_false}
 use Rattle.lists.proofs.Splicing.{splice-none}
-use Rattle.text.specs.declared.Written.{Written}
-use Rattle.text.specs.declared.Written.TheVariants.{To, Refused}
 use Rattle.feeding.specs.Fed.{Fed, whole_line, waits, taken, taken_bytes}
 use Rattle.feeding.specs.Moves.{Move, nothing, steps_move, last_move}
 use Rattle.feeding.proofs.Taking.{or_so, or_not}
@@ -22,18 +21,19 @@ use Rattle.printer.specs.declared.Turned.{Turned}
 use Rattle.printer.specs.Print.{rest_move, turn_move}
 use Rattle.printer.specs.Steps.{busy, put_by, Goes, Turns}
 use Rattle.printer.proofs.Turning.{turn_step, turn-rest, none-taken, busy_open}
+use Rattle.refusal.specs.declared.Refusal.{Refusal}
 
 -- a move that was made, or for which the slice was too short
 module _ {f : Fed} {m : Move} {d : List ℕ} {f' : Fed} {d' : List ℕ} {r : Turned} where
-  by_written : (p : Written) → Makes f m d p f' d' → r.goes ≡ (put_by p).fits → r.fits ≡ (put_by p).fits → r.wrote ≡ (put_by p).bytes → r.used ≡ 0 → Goes f m 0 true d r f' d'
-  by_written (To n) q g t w u =
+  by_written : (p : Result ℕ Refusal) → Makes f m d p f' d' → r.goes ≡ (put_by p).fits → r.fits ≡ (put_by p).fits → r.wrote ≡ (put_by p).bytes → r.used ≡ 0 → Goes f m 0 true d r f' d'
+  by_written (Ok n) q g t w u =
       let x = made q refl in
       record { so = λ h. (t, g, w ∙ x.end, x.fed, x.slice); not = λ h. absurd (let k = x.fits in omega arith); used = u }
-  by_written (Refused k) q g t w u =
+  by_written (Err k) q g t w u =
       let x = not_made q refl in
       record { so = λ h. absurd (let l = x.0 in omega arith); not = λ h. (t, g, w, x.1, x.2); used = u }
 
-  pub goes-stepped : {p : Written} {l : Put} → l ≡ put_by p → Makes f m d p f' d' → r.goes ≡ l.fits → r.fits ≡ l.fits → r.wrote ≡ l.bytes → r.used ≡ 0 → Goes f m 0 true d r f' d'
+  pub goes-stepped : {p : Result ℕ Refusal} {l : Put} → l ≡ put_by p → Makes f m d p f' d' → r.goes ≡ l.fits → r.fits ≡ l.fits → r.wrote ≡ l.bytes → r.used ≡ 0 → Goes f m 0 true d r f' d'
   goes-stepped {p} {l} e q g t w u = by_written p q (g ∙ ap (λ (x : Put). x.fits) e) (t ∙ ap (λ (x : Put). x.fits) e) (w ∙ ap (λ (x : Put). x.bytes) e) u
 
 -- nothing is written

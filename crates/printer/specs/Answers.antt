@@ -1,11 +1,9 @@
 -- What a call of the printer answers.
-use Rattle.std.specs.Prelude.{Bool, ◌≡◌, List, [], ◌∷◌, ℕ, length}
+use Rattle.std.specs.Prelude.{Bool, ◌≡◌, List, [], ◌∷◌, ℕ, length, Result, Ok, Err}
 use Rattle.lists.specs.Choice.{choose}
 use Rattle.lists.specs.Splice.{splice}
 use Rattle.refusal.specs.declared.Refusal.{Refusal}
 use Rattle.refusal.specs.Answer.{accepted, refused}
-use Rattle.text.specs.declared.Written.{Written}
-use Rattle.text.specs.declared.Written.TheVariants.{To, Refused}
 use Rattle.text.specs.Write.{of_written}
 use Rattle.feeding.specs.Fed.{Fed}
 use Rattle.feed.specs.declared.Feed.{Feed}
@@ -15,9 +13,9 @@ use Rattle.printer.specs.Print.{print, short}
 use Rattle.printer.specs.Laws.{Laws}
 
 -- how many bytes were written
-abbrev pub written_bytes : Written → ℕ
-written_bytes (To n) = n
-written_bytes (Refused k) = 0
+abbrev pub written_bytes : Result ℕ Refusal → ℕ
+written_bytes (Ok n) = n
+written_bytes (Err k) = 0
 
 -- the piece s, the last or not, and the lent slice d: 9 where the slice is too short for the next
 -- lines, and then nothing is taken, written or changed (`ShortDoesNothing`)
@@ -37,4 +35,4 @@ pub record PrintsIn (x : Feed) (l w : List ℕ) (k : List Bool) (s : List ℕ) (
   pub leaves : let p = print (fed_of x l w k) s last (length d) in Leaves x w k p.used p.fed r.feed w' k'
   pub line : l' ≡ (print (fed_of x l w k) s last (length d)).line l
   -- 9: all is as it was
-  pub same : (n : Refusal) → r.written ≡ Refused n → (r.feed ≡ x) × (l' ≡ l) × (w' ≡ w) × (k' ≡ k) × (d' ≡ d)
+  pub same : (n : Refusal) → r.written ≡ Err n → (r.feed ≡ x) × (l' ≡ l) × (w' ≡ w) × (k' ≡ k) × (d' ≡ d)

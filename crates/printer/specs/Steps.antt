@@ -1,8 +1,6 @@
 -- What private functions answer. Nothing is promised here.
-use Rattle.std.specs.Prelude.{Bool, true, false, not, ◌&&◌, ◌||◌, ◌≡◌, List, [], ℕ, ◌≤◌, ◌<◌, ltb, length}
+use Rattle.std.specs.Prelude.{Bool, true, false, not, ◌&&◌, ◌||◌, ◌≡◌, List, [], ℕ, ◌≤◌, ◌<◌, ltb, length, Result, Ok, Err}
 use Rattle.lists.specs.Splice.{splice}
-use Rattle.text.specs.declared.Written.{Written}
-use Rattle.text.specs.declared.Written.TheVariants.{To, Refused}
 use Rattle.feeding.specs.Fed.{Fed, waits, taken_bytes}
 use Rattle.feeding.specs.Moves.{Move}
 use Rattle.feed.specs.declared.Feed.{Feed}
@@ -11,6 +9,7 @@ use Rattle.printer.specs.declared.Put.{Put}
 use Rattle.printer.specs.declared.Turned.{Turned}
 use Rattle.printer.specs.declared.Ran.{Ran}
 use Rattle.printer.specs.Print.{rest_move, turn_move, print, short}
+use Rattle.refusal.specs.declared.Refusal.{Refusal}
 
 -- whether a turn does anything
 abbrev pub busy : Fed → List ℕ → Bool → Bool
@@ -25,9 +24,9 @@ pub record Goes (f : Fed) (m : Move) (n : ℕ) (b : Bool) (d : List ℕ) (r : Tu
   pub used : r.used ≡ n
 
 -- what was written
-abbrev pub put_by : Written → Put
-put_by (To n) = record { fits = true; bytes = n }
-put_by (Refused k) = record { fits = false; bytes = 0 }
+abbrev pub put_by : Result ℕ Refusal → Put
+put_by (Ok n) = record { fits = true; bytes = n }
+put_by (Err k) = record { fits = false; bytes = 0 }
 
 -- the end of the input where no byte is left, and what it leaves
 pub record EndsIn (x : Feed) (l w : List ℕ) (k : List Bool) (last : Bool) (d : List ℕ) (r : Turned) (d' : List ℕ) : Type 0 where

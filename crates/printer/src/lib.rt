@@ -13,13 +13,12 @@ use feed::Feed;
 use group::Links;
 use places::Packed;
 use refusal::Refusal;
-use text::Written;
 
 // How many bytes of the piece were taken, how many were written, and whether the sheet is over; 9
 // where the slice is too short for the next lines, and then the feed as it was.
 #[derive(Clone, Copy)]
 pub struct Printed {
-    pub written: Written,
+    pub written: Result<usize, Refusal>,
     pub used: usize,
     pub over: bool,
     pub feed: Feed,
@@ -51,15 +50,15 @@ struct Put {
     bytes: usize,
 }
 
-fn put_by(written: Written) -> Put
+fn put_by(written: Result<usize, Refusal>) -> Put
     ensures { result ≡ put_by written }
 {
     match written {
-        Written::To(n) => Put {
+        Ok(n) => Put {
             fits: true,
             bytes: n,
         },
-        Written::Refused(_) => Put {
+        Err(_) => Put {
             fits: false,
             bytes: 0,
         },
@@ -67,12 +66,12 @@ fn put_by(written: Written) -> Put
 }
 
 // How many bytes were written; 0 where that was refused.
-pub fn bytes(written: Written) -> usize
+pub fn bytes(written: Result<usize, Refusal>) -> usize
     ensures { result ≡ written_bytes written }
 {
     match written {
-        Written::To(n) => n,
-        Written::Refused(_) => 0,
+        Ok(n) => n,
+        Err(_) => 0,
     }
 }
 
@@ -186,13 +185,13 @@ fn run(
 }
 
 // How many bytes were written; 9.
-fn answer(short: bool, wrote: usize) -> Written
+fn answer(short: bool, wrote: usize) -> Result<usize, Refusal>
     ensures { of_written result ≡ choose short (refused 9) (accepted (wrote ∷ [])) }
 {
     if short {
-        return Written::Refused(Refusal::Short);
+        return Err(Refusal::Short);
     }
-    Written::To(wrote)
+    Ok(wrote)
 }
 
 // As much of the sheet as is known and fits, at the slice's start: what the pieces so far and this

@@ -6,9 +6,11 @@ use mathlib.Core.Logic.{⊎_elim}
 use Prim.Native.Nat.{ℕ, ◌<◌}
 use native.Mathlib.Omega.{arith}
 use borrow.Author.Tests.{eq-eqb, ne_eqb}
-use lib.Dec.{lit<}
+use denote.Enum.Bare.{sameb}
+use lib.Dec.{eqb, lit<}
 use Rattle.lists.specs.Choice.{choose}
 use Rattle.lists.proofs.Cases.{equal, chosen, other}
+use Rattle.refusal.specs.contracts.Refusal.{the_type}
 use Rattle.refusal.specs.declared.Refusal.{Refusal}
 use Rattle.refusal.specs.declared.Refusal.TheVariants.{Form, Number, Timecode, Place, Taken, Servers, Period, Identity, Short, Past, Down, Up, Role, Link, DayOver}
 use Rattle.refusal.specs.Answer.{Answer, accepted, refused, in_turn, number_of}
@@ -30,6 +32,24 @@ number-some Up = lit< tt
 number-some Role = lit< tt
 number-some Link = lit< tt
 number-some DayOver = lit< tt
+
+-- `k == Refusal::Short` is the test of its number
+pub is_short : (r : Refusal) → sameb the_type r Short ≡ eqb (number_of r) 9
+is_short Form = refl
+is_short Number = refl
+is_short Timecode = refl
+is_short Place = refl
+is_short Taken = refl
+is_short Servers = refl
+is_short Period = refl
+is_short Identity = refl
+is_short Short = refl
+is_short Past = refl
+is_short Down = refl
+is_short Up = refl
+is_short Role = refl
+is_short Link = refl
+is_short DayOver = refl
 
 -- an answer is not accepted and refused
 pub not-both : {A : Type 0} {k v : ℕ} {vs : List ℕ} → refused k ≡ accepted (v ∷ vs) → A

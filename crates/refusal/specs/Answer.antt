@@ -1,8 +1,6 @@
 -- What a call answers, in document 01's numbers.
-use Rattle.std.specs.Prelude.{List, [], ◌++◌, ℕ, eqb}
+use Rattle.std.specs.Prelude.{List, [], ◌++◌, ℕ, eqb, Result, Ok, Err}
 use Rattle.lists.specs.Choice.{choose}
-use Rattle.refusal.specs.declared.Verdict.{Verdict}
-use Rattle.refusal.specs.declared.Verdict.TheVariants.{Accepted, Refused}
 use Rattle.refusal.specs.declared.Refusal.{Refusal}
 use Rattle.refusal.specs.declared.Refusal.TheVariants.{Form, Number, Timecode, Place, Taken, Servers, Period, Identity, Short, Past, Down, Up, Role, Link, DayOver}
 
@@ -40,7 +38,7 @@ number_of Role = 14
 number_of Link = 15
 number_of DayOver = 16
 
--- the number of a verdict, 0 where the call is accepted
-abbrev pub of_verdict : Verdict → ℕ
-of_verdict Accepted = 0
-of_verdict (Refused r) = number_of r
+-- the number of a call that gives no value but whether it is accepted; 0 where it is
+abbrev pub of_verdict : Result (Unit {0}) Refusal → ℕ
+of_verdict (Ok _) = 0
+of_verdict (Err r) = number_of r

@@ -4,7 +4,7 @@
 ghost use Rattle.std.specs.Prelude.{◌≡◌};
 ghost use Rattle.refusal.specs.Answer.{number_of};
 
-#[derive(Clone, Copy)]
+#[derive(Clone, Copy, Debug, PartialEq, Eq)]
 pub enum Refusal {
     // A line's form.
     Form,
@@ -36,13 +36,6 @@ pub enum Refusal {
     Link,
     // An advance at the day's last frame.
     DayOver,
-}
-
-// Whether a call is accepted.
-#[derive(Clone, Copy)]
-pub enum Verdict {
-    Accepted,
-    Refused(Refusal),
 }
 
 impl Refusal {

@@ -1,5 +1,5 @@
 -- "The table of roles against verbs".
-use Rattle.std.specs.Prelude.{Bool, true, false, List, [], ◌∷◌, ℕ, ltb, eqb, get_or}
+use Rattle.std.specs.Prelude.{Bool, true, false, List, [], ◌∷◌, ℕ, ltb, eqb, get_or, Result, Ok, Err}
 use Rattle.lists.specs.Choice.{choose}
 use Rattle.refusal.specs.Answer.{Answer, accepted, refused, number_of}
 use Rattle.roles.specs.declared.Role.{Role}
@@ -8,9 +8,8 @@ use Rattle.roles.specs.declared.Verb.{Verb}
 use Rattle.roles.specs.declared.Verb.TheVariants.{Start, Ready, Unready, Pass, Crash, Restart, Cut, Mend}
 use Rattle.roles.specs.declared.Event.{Event}
 use Rattle.roles.specs.declared.Event.TheVariants.{Nothing, ToBackup, ToSync, ToIdle, ToDown, Passed}
-use Rattle.roles.specs.declared.Allowed.{Allowed}
-use Rattle.roles.specs.declared.Allowed.TheVariants.{To, Refused}
 use Rattle.roles.specs.Roles.{role_number, in_role_of}
+use Rattle.refusal.specs.declared.Refusal.{Refusal}
 
 -- a verb that takes a server from the role a to the role b; "12. Server down (.. the acting server
 -- only)", "14. The role does not allow the verb."
@@ -66,9 +65,9 @@ unfoldable pub verb_happens : Verb → ℕ → Answer → Event
 verb_happens v b a = choose (eqb a.number 0) (verb_event v b (get_or a.values 0 0)) Nothing
 
 -- the number and the values of what a role allows: the number of the role
-abbrev pub of_allowed : Allowed → Answer
-of_allowed (To k) = accepted (k ∷ [])
-of_allowed (Refused r) = refused (number_of r)
+abbrev pub of_allowed : Result ℕ Refusal → Answer
+of_allowed (Ok k) = accepted (k ∷ [])
+of_allowed (Err r) = refused (number_of r)
 
 -- ---- the table, as the code has it: the number of the role entered, or kept by `cut` and `mend`,
 -- or that of the refusal

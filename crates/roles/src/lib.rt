@@ -77,13 +77,6 @@ pub enum Said {
     Two(Word, Word),
 }
 
-// What a role allows a verb: the number of the role that is entered or kept, or 12, 13 or 14.
-#[derive(Clone, Copy)]
-pub enum Allowed {
-    To(u8),
-    Refused(Refusal),
-}
-
 // ---- verbs
 
 // The table of roles against verbs: for each role, in the order of Role, and each verb, in the
@@ -156,15 +149,11 @@ fn refusal_of(n: u8) -> Refusal
 }
 
 // What the table says of a verb in a role.
-pub fn by_table(verb: Verb, role: Role) -> Allowed
+pub fn by_table(verb: Verb, role: Role) -> Result<u8, Refusal>
     ensures { of_allowed result ≡ enters verb role }
 {
     let n = entered(verb, role);
-    if n < 12 {
-        Allowed::To(n)
-    } else {
-        Allowed::Refused(refusal_of(n))
-    }
+    if n < 12 { Ok(n) } else { Err(refusal_of(n)) }
 }
 
 // The event of entering the role with the number k.

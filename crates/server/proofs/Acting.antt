@@ -1,4 +1,5 @@
 -- What a verb makes of a server, from what its role allows. Assumes nothing.
+use Rattle.std.specs.Prelude.{Ok}
 use mathlib.Core.Bool.{Bool, true, false, ◌&&◌, ◌||◌}
 use mathlib.Core.Path.{◌≡◌, refl, sym, ap, ◌∙◌}
 use mathlib.Core.List.{[], ◌∷◌}
@@ -9,7 +10,6 @@ use lib.Dec.{eqb}
 use Rattle.lists.proofs.Cases.{chosen, other}
 use Rattle.refusal.specs.Answer.{Answer, accepted, refused, number_of}
 use Rattle.refusal.specs.declared.Refusal.{Refusal}
-use Rattle.refusal.specs.declared.Verdict.TheVariants.{Accepted}
 use Rattle.refusal.proofs.Answers.{number-some}
 use Rattle.roles.specs.declared.Verb.{Verb}
 use Rattle.roles.specs.declared.Event.{Event}
@@ -38,7 +38,7 @@ module _ (v : Verb) (t b : ℕ) (s : Server) where
   -- a role entered or kept
   pub allowed :
       (a : Answer) (n : ℕ) {e : Event} {s' : Server} → accepted (n ∷ []) ≡ a → e ≡ verb_event v b n → s' ≡ after t s e →
-      Acts v t b s a (record { verdict = Accepted; server = s'; event = e })
+      Acts v t b s a (record { verdict = (Ok tt); server = s'; event = e })
   allowed a n is e f =
       let so : verb_event v b n ≡ verb_happens v b a = sym (happens n) ∙ ap (verb_happens v b) is in
       record { number = ap (λ (x : Answer). x.number) is; event = e ∙ so; server = f ∙ ap (after t s) (e ∙ so) }

@@ -1,9 +1,8 @@
 -- The verbs of one server.
-use Rattle.std.specs.Prelude.{◌&&◌, ◌||◌, ◌≡◌, ℕ, eqb}
+use Rattle.std.specs.Prelude.{◌&&◌, ◌||◌, ◌≡◌, ℕ, eqb, Err}
 use Rattle.lists.specs.Choice.{choose}
 use Rattle.refusal.specs.Answer.{Answer, refused, of_verdict}
 use Rattle.refusal.specs.declared.Refusal.{Refusal}
-use Rattle.refusal.specs.declared.Verdict.TheVariants.{Refused}
 use Rattle.roles.specs.declared.Verb.{Verb}
 use Rattle.roles.specs.declared.Event.TheVariants.{Nothing}
 use Rattle.roles.specs.Verbs.{enters, paired, verb_happens}
@@ -29,4 +28,4 @@ pub record Acts (v : Verb) (t b : ℕ) (s : Server) (a : Answer) (r : Acted) : T
 
 -- a refused verb: the same server
 abbrev pub refusing : Server → Refusal → Acted
-refusing s k = record { verdict = Refused k; server = s; event = Nothing }
+refusing s k = record { verdict = Err k; server = s; event = Nothing }

@@ -11,8 +11,8 @@ ghost use Rattle.server.specs.Verbs.{verb_answer, refusing, Acts};
 
 use heartbeat::{Heartbeat, Rank};
 use periods::Period;
-use refusal::{Refusal, Verdict};
-use roles::{Allowed, Event, Role, Verb};
+use refusal::Refusal;
+use roles::{Event, Role, Verb};
 
 // A timer is the frame it was set in. The last three fields are what was sent in this frame: plain
 // beats, a reveal, a pass (0: none). A place with no server has identity 0 and is down.
@@ -32,7 +32,7 @@ pub struct Server {
 // A new server, or an empty place.
 #[derive(Clone, Copy)]
 pub struct Made {
-    pub verdict: Verdict,
+    pub verdict: Result<(), Refusal>,
     pub server: Server,
 }
 
@@ -55,7 +55,7 @@ pub struct Timed {
 // A server after a verb, and what happened; where the verb is refused, the same server and nothing.
 #[derive(Clone, Copy)]
 pub struct Acted {
-    pub verdict: Verdict,
+    pub verdict: Result<(), Refusal>,
     pub server: Server,
     pub event: Event,
 }
@@ -101,13 +101,13 @@ impl Server {
         if identity == 0 {
             let server = Server::absent();
             Made {
-                verdict: Verdict::Refused(Refusal::Number),
+                verdict: Err(Refusal::Number),
                 server,
             }
         } else {
             let server = Server::idle(identity, priority);
             Made {
-                verdict: Verdict::Accepted,
+                verdict: Ok(()),
                 server,
             }
         }
@@ -465,7 +465,7 @@ impl Server {
         ensures { result ≡ refusing self k }
     {
         Acted {
-            verdict: Verdict::Refused(k),
+            verdict: Err(k),
             server: self,
             event: Event::Nothing,
         }
@@ -477,15 +477,15 @@ impl Server {
     {
         let role = self.role;
         match roles::by_table(verb, role) {
-            Allowed::To(k) => {
+            Ok(k) => {
                 let event = roles::verb_event(verb, to, k);
                 Acted {
-                    verdict: Verdict::Accepted,
+                    verdict: Ok(()),
                     server: self.after(frame, event),
                     event,
                 }
             }
-            Allowed::Refused(k) => self.refused(k),
+            Err(k) => self.refused(k),
         }
     }
 

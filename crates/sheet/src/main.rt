@@ -11,9 +11,9 @@ ghost use Rattle.feeding.specs.Bound.{step_bytes};
 use feed::Feed;
 use group::{Links, Table};
 use places::Packed;
+use refusal::Refusal;
 use std::io::{Error, ErrorKind, Read};
 use std::process::ExitCode;
-use text::Written;
 
 // A day under way: where it stands; whether it goes on: its sheet is not over, and all went well so
 // far; and whether all did.
@@ -73,10 +73,10 @@ fn flush(rt: &(impl Print + Eprint), out: &[u8], n: usize) -> bool {
 }
 
 // Writes what was printed. With so much room nothing is refused; were it so, that would be said.
-fn put(rt: &(impl Print + Eprint), written: Written, out: &[u8]) -> bool {
+fn put(rt: &(impl Print + Eprint), written: Result<usize, Refusal>, out: &[u8]) -> bool {
     match written {
-        Written::To(n) => flush(rt, out, n),
-        Written::Refused(_) => {
+        Ok(n) => flush(rt, out, n),
+        Err(_) => {
             say(rt, "sheet: the next lines do not fit");
             false
         }

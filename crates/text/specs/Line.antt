@@ -1,15 +1,15 @@
 -- Lines and their fields.
-use Rattle.std.specs.Prelude.{◌&&◌, List, [], ◌∷◌, ℕ, suc, leb, eqb, length, get_or, drop}
+use Rattle.std.specs.Prelude.{◌&&◌, List, [], ◌∷◌, ℕ, suc, leb, eqb, length, get_or, drop, Result, Ok, Err}
 use Rattle.lists.specs.Choice.{choose}
 use Rattle.lists.specs.Lists.{split_on, up_to}
 use Rattle.refusal.specs.Answer.{Answer, accepted, refused, number_of}
-use Rattle.text.specs.declared.LineAnswer.{LineAnswer}
-use Rattle.text.specs.declared.LineAnswer.TheVariants.{Is, Refused}
+use Rattle.refusal.specs.declared.Refusal.{Refusal}
+use Rattle.text.specs.declared.Line.{Line}
 
 -- the number and the values of the answer: how many bytes stand before the line feed
-abbrev pub of_line : LineAnswer → Answer
-of_line (Is l) = accepted (l.length ∷ [])
-of_line (Refused r) = refused (number_of r)
+abbrev pub of_line : Result Line Refusal → Answer
+of_line (Ok l) = accepted (l.length ∷ [])
+of_line (Err r) = refused (number_of r)
 
 -- "at most 64 bytes without it"
 abbrev pub line_limit : ℕ

@@ -1,15 +1,14 @@
 -- A field read as a number.
-use Rattle.std.specs.Prelude.{Bool, false, not, ◌&&◌, List, [], ◌∷◌, ℕ, ◌+◌, ◌-◌, ◌*◌, leb, eqb}
+use Rattle.std.specs.Prelude.{Bool, false, not, ◌&&◌, List, [], ◌∷◌, ℕ, ◌+◌, ◌-◌, ◌*◌, leb, eqb, Result, Ok, Err}
 use Rattle.lists.specs.Choice.{choose}
 use Rattle.lists.specs.Lists.{every}
 use Rattle.refusal.specs.Answer.{Answer, accepted, refused, number_of}
-use Rattle.text.specs.declared.NumberAnswer.{NumberAnswer}
-use Rattle.text.specs.declared.NumberAnswer.TheVariants.{Is, Refused}
+use Rattle.refusal.specs.declared.Refusal.{Refusal}
 
 -- the number and the values of a reader's answer
-abbrev pub of_number : NumberAnswer → Answer
-of_number (Is n) = accepted (n ∷ [])
-of_number (Refused r) = refused (number_of r)
+abbrev pub of_number : Result ℕ Refusal → Answer
+of_number (Ok n) = accepted (n ∷ [])
+of_number (Err r) = refused (number_of r)
 
 -- one of the bytes 0 to 9
 abbrev pub is_digit : ℕ → Bool

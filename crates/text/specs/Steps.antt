@@ -1,12 +1,12 @@
 -- What private functions answer, here and in the crates above. Nothing is promised here.
-use Rattle.std.specs.Prelude.{◌≡◌, Bool, true, false, ◌&&◌, List, [], ◌∷◌, ℕ, ◌+◌, ◌-◌, ◌*◌, ◌≤◌, leb, eqb, length}
+use Rattle.std.specs.Prelude.{◌≡◌, Bool, true, false, ◌&&◌, List, [], ◌∷◌, ℕ, ◌+◌, ◌-◌, ◌*◌, ◌≤◌, leb, eqb, length, Result}
 use Rattle.lists.specs.Choice.{choose}
 use Rattle.lists.specs.Lists.{every}
 use Rattle.lists.specs.Splice.{splice}
 use Rattle.refusal.specs.Answer.{Answer, accepted, refused}
-use Rattle.text.specs.declared.Written.{Written}
 use Rattle.text.specs.Number.{is_digit, value_from}
 use Rattle.text.specs.Write.{of_written, writing}
+use Rattle.refusal.specs.declared.Refusal.{Refusal}
 
 -- no byte at all, or a 0 before another byte
 unfoldable pub bad_start : List ℕ → Bool
@@ -29,7 +29,7 @@ at_least lo n = choose (leb lo n) (accepted (n ∷ [])) (refused 2)
 -- what a writer that writes w in pieces leaves: the answer of w, and where all of w fits, w at its
 -- place and nothing else changed. Where it does not fit some pieces may stand there, so who calls
 -- it has seen before that it fits
-pub record Pieces (d : List ℕ) (at : ℕ) (w : List ℕ) (r : Written) (d' : List ℕ) : Type 0 where
+pub record Pieces (d : List ℕ) (at : ℕ) (w : List ℕ) (r : Result ℕ Refusal) (d' : List ℕ) : Type 0 where
   pub answer : of_written r ≡ writing d at w
   pub slice : at + length w ≤ length d → d' ≡ splice d at w
   pub kept : length d' ≡ length d

@@ -6,36 +6,15 @@ ghost use Rattle.lists.specs.Lists.{same, up_to};
 ghost use Rattle.text.specs.Digits.{digits};
 ghost use Rattle.text.specs.Number.{of_number, read_number};
 ghost use Rattle.text.specs.Line.{of_line, read_line, fields, field, after_field};
-ghost use Rattle.text.specs.Write.{room_for, Writes, WritesNumber, WritesOn};
+ghost use Rattle.text.specs.Write.{room_for, Writes, WritesNumber};
 ghost use Rattle.text.specs.Steps.{bad_start, read_from, read_digit, at_least};
 
 use refusal::Refusal;
-
-// A number read, or 2.
-#[derive(Clone, Copy)]
-pub enum NumberAnswer {
-    Is(u64),
-    Refused(Refusal),
-}
 
 // A line: how many bytes stand before its line feed.
 #[derive(Clone, Copy)]
 pub struct Line {
     pub length: usize,
-}
-
-// A line, or 1.
-#[derive(Clone, Copy)]
-pub enum LineAnswer {
-    Is(Line),
-    Refused(Refusal),
-}
-
-// The place after what was written, or a refusal.
-#[derive(Clone, Copy)]
-pub enum Written {
-    To(usize),
-    Refused(Refusal),
 }
 
 // ---- reading
@@ -44,31 +23,14 @@ pub enum Written {
 pub fn find(s: &[u8], b: u8) -> usize
     ensures { result ≡ up_to b s.now }
 {
-    let mut i = 0;
-    while i < s.len() {
-        if s[i] == b {
-            return i;
-        }
-        i += 1;
-    }
-    i
+    s.iter().position(|x| *x == b).unwrap_or(s.len())
 }
 
 // Whether the bytes are those of a word.
 pub fn same(s: &[u8], word: &[u8]) -> bool
     ensures { result ≡ same s.now word.now }
 {
-    if s.len() != word.len() {
-        return false;
-    }
-    let mut i = 0;
-    while i < s.len() {
-        if s[i] != word[i] {
-            return false;
-        }
-        i += 1;
-    }
-    true
+    s == word
 }
 
 impl Line {
@@ -76,17 +38,17 @@ impl Line {
     pub const LIMIT: usize = 64;
 
     // The line that s is, with its line feed, or 1.
-    pub fn read(s: &[u8]) -> LineAnswer
+    pub fn read(s: &[u8]) -> Result<Line, Refusal>
         ensures { of_line result ≡ read_line s.now }
     {
         let n = find(s, b'\n');
         if n > Line::LIMIT {
-            return LineAnswer::Refused(Refusal::Form);
+            return Err(Refusal::Form);
         }
         if n + 1 == s.len() {
-            LineAnswer::Is(Line { length: n })
+            Ok(Line { length: n })
         } else {
-            LineAnswer::Refused(Refusal::Form)
+            Err(Refusal::Form)
         }
     }
 }
@@ -117,15 +79,7 @@ pub fn after_field(s: &[u8]) -> &[u8]
 pub fn field_count(s: &[u8]) -> usize
     ensures { result ≡ length (fields s.now) }
 {
-    let mut n: usize = 1;
-    let mut i = 0;
-    while i < s.len() {
-        if s[i] == b'\t' {
-            n += 1;
-        }
-        i += 1;
-    }
-    n
+    s.iter().filter(|x| **x == b'\t').count() + 1
 }
 
 // No byte at all, or a 0 before another byte.
@@ -142,65 +96,54 @@ fn bad_start(s: &[u8]) -> bool
 }
 
 // The number n with one digit more, at most the greatest. No product or sum here exceeds it.
-fn read_digit(n: u64, x: u8, greatest: u64) -> NumberAnswer
+fn read_digit(n: u64, x: u8, greatest: u64) -> Result<u64, Refusal>
     ensures { of_number result ≡ read_digit greatest n x }
 {
     if x < b'0' {
-        return NumberAnswer::Refused(Refusal::Number);
+        return Err(Refusal::Number);
     }
     if x > b'9' {
-        return NumberAnswer::Refused(Refusal::Number);
+        return Err(Refusal::Number);
     }
     if n > greatest / 10 {
-        return NumberAnswer::Refused(Refusal::Number);
+        return Err(Refusal::Number);
     }
     let digit = (x - b'0') as u64;
     if digit > greatest - n * 10 {
-        return NumberAnswer::Refused(Refusal::Number);
+        return Err(Refusal::Number);
     }
-    NumberAnswer::Is(n * 10 + digit)
+    Ok(n * 10 + digit)
 }
 
-fn read_digits(s: &[u8], greatest: u64) -> NumberAnswer
+fn read_digits(s: &[u8], greatest: u64) -> Result<u64, Refusal>
     ensures { of_number result ≡ read_from greatest 0 s.now }
 {
     let mut n: u64 = 0;
-    let mut i = 0;
-    while i < s.len() {
-        match read_digit(n, s[i], greatest) {
-            NumberAnswer::Is(m) => {
-                n = m;
-                i += 1;
-            }
-            NumberAnswer::Refused(k) => {
-                return NumberAnswer::Refused(k);
-            }
-        }
+    for x in s {
+        n = read_digit(n, *x, greatest)?;
     }
-    NumberAnswer::Is(n)
+    Ok(n)
 }
 
-fn at_least(n: u64, least: u64) -> NumberAnswer
+fn at_least(n: u64, least: u64) -> Result<u64, Refusal>
     ensures { of_number result ≡ at_least least n }
 {
     if n < least {
-        NumberAnswer::Refused(Refusal::Number)
+        Err(Refusal::Number)
     } else {
-        NumberAnswer::Is(n)
+        Ok(n)
     }
 }
 
 // The number that a whole field writes, from the least to the greatest.
-pub fn read_number(s: &[u8], least: u64, greatest: u64) -> NumberAnswer
+pub fn read_number(s: &[u8], least: u64, greatest: u64) -> Result<u64, Refusal>
     ensures { of_number result ≡ read_number least greatest s.now }
 {
     if bad_start(s) {
-        return NumberAnswer::Refused(Refusal::Number);
+        return Err(Refusal::Number);
     }
-    match read_digits(s, greatest) {
-        NumberAnswer::Is(n) => at_least(n, least),
-        NumberAnswer::Refused(k) => NumberAnswer::Refused(k),
-    }
+    let n = read_digits(s, greatest)?;
+    at_least(n, least)
 }
 
 // ---- writing
@@ -236,7 +179,7 @@ fn digits_fit(room: usize, at: usize, n: u64) -> bool
 // The digits of n, where they fit.
 fn put_digits(out: &mut [u8], at: usize, n: u64) -> usize
     requires { at + length (digits n) ≤ length out.old }
-    ensures { Writes out.old at (digits n) (Written.To result) out.new }
+    ensures { Writes out.old at (digits n) (Ok result) out.new }
 {
     if n < 10 {
         out[at] = b'0' + (n % 10) as u8;
@@ -249,58 +192,33 @@ fn put_digits(out: &mut [u8], at: usize, n: u64) -> usize
 }
 
 // The digits of n into the slice, or 9 and no byte changed.
-pub fn write_number(out: &mut [u8], at: usize, n: u64) -> Written
+pub fn write_number(out: &mut [u8], at: usize, n: u64) -> Result<usize, Refusal>
     ensures { WritesNumber out.old at n result out.new }
 {
     if digits_fit(out.len(), at, n) {
-        Written::To(put_digits(out, at, n))
+        Ok(put_digits(out, at, n))
     } else {
-        Written::Refused(Refusal::Short)
+        Err(Refusal::Short)
     }
 }
 
 // The bytes of a word, where they fit.
 fn put_bytes(out: &mut [u8], at: usize, word: &[u8]) -> usize
     requires { at + length word.now ≤ length out.old }
-    ensures { Writes out.old at word.now (Written.To result) out.new }
+    ensures { Writes out.old at word.now (Ok result) out.new }
 {
-    let mut j = 0;
-    while j < word.len() {
-        out[at + j] = word[j];
-        j += 1;
-    }
-    at + j
+    let end = at + word.len();
+    out[at..end].copy_from_slice(word);
+    end
 }
 
 // The bytes of a word into the slice, or 9 and no byte changed.
-pub fn write_bytes(out: &mut [u8], at: usize, word: &[u8]) -> Written
+pub fn write_bytes(out: &mut [u8], at: usize, word: &[u8]) -> Result<usize, Refusal>
     ensures { Writes out.old at word.now result out.new }
 {
     if fits(out.len(), at, word.len()) {
-        Written::To(put_bytes(out, at, word))
+        Ok(put_bytes(out, at, word))
     } else {
-        Written::Refused(Refusal::Short)
-    }
-}
-
-impl Written {
-    // The word after what was written.
-    pub fn then_bytes(self, out: &mut [u8], word: &[u8]) -> Written
-        ensures { WritesOn out.old self word.now result out.new }
-    {
-        match self {
-            Written::To(at) => write_bytes(out, at, word),
-            Written::Refused(k) => Written::Refused(k),
-        }
-    }
-
-    // The number after what was written.
-    pub fn then_number(self, out: &mut [u8], n: u64) -> Written
-        ensures { WritesOn out.old self (digits n) result out.new }
-    {
-        match self {
-            Written::To(at) => write_number(out, at, n),
-            Written::Refused(k) => Written::Refused(k),
-        }
+        Err(Refusal::Short)
     }
 }

@@ -1,16 +1,16 @@
 -- A label read, and a frame taken as one of the day.
-use Rattle.std.specs.Prelude.{Bool, ◌&&◌, List, [], ◌∷◌, ℕ, suc, ◌+◌, ◌-◌, ◌*◌, ltb, eqb, length, get_or}
+use Rattle.std.specs.Prelude.{Bool, ◌&&◌, List, [], ◌∷◌, ℕ, suc, ◌+◌, ◌-◌, ◌*◌, ltb, eqb, length, get_or, Result, Ok, Err}
 use Rattle.lists.specs.Choice.{choose}
 use Rattle.refusal.specs.Answer.{Answer, accepted, refused, number_of}
 use Rattle.text.specs.Number.{is_digit}
-use Rattle.timecode.specs.declared.TimecodeAnswer.{TimecodeAnswer}
-use Rattle.timecode.specs.declared.TimecodeAnswer.TheVariants.{Is, Refused}
 use Rattle.timecode.specs.Label.{rate, day_length}
+use Rattle.refusal.specs.declared.Refusal.{Refusal}
+use Rattle.timecode.specs.declared.Timecode.{Timecode}
 
 -- the number and the values of the answer: the frame
-abbrev pub of_timecode : TimecodeAnswer → Answer
-of_timecode (Is t) = accepted (t.frame ∷ [])
-of_timecode (Refused r) = refused (number_of r)
+abbrev pub of_timecode : Result Timecode Refusal → Answer
+of_timecode (Ok t) = accepted (t.frame ∷ [])
+of_timecode (Err r) = refused (number_of r)
 
 -- the frame is one of the day
 abbrev pub in_day : ℕ → Bool

@@ -10,20 +10,12 @@ ghost use Rattle.timecode.specs.Trips.{Labels};
 ghost use Rattle.timecode.specs.Steps.{has_colons, in_range, Pair, Digits, IsLabel};
 
 use refusal::Refusal;
-use text::Written;
 
 // A frame of the day, by its number. `Timecode::of_frame` and `Timecode::read` make it; no other
 // crate can by itself.
 #[derive(Clone, Copy)]
 pub struct Timecode {
     frame: u32,
-}
-
-// A timecode, or 3.
-#[derive(Clone, Copy)]
-pub enum TimecodeAnswer {
-    Is(Timecode),
-    Refused(Refusal),
 }
 
 impl Timecode {
@@ -34,24 +26,24 @@ impl Timecode {
     pub const DAY: u32 = 24 * 60 * 60 * Timecode::RATE;
 
     // The timecode of a frame of the day.
-    pub fn of_frame(frame: u32) -> TimecodeAnswer
+    pub fn of_frame(frame: u32) -> Result<Timecode, Refusal>
         ensures { of_timecode result ≡ take_frame frame }
     {
         if frame < Timecode::DAY {
-            TimecodeAnswer::Is(Timecode { frame })
+            Ok(Timecode { frame })
         } else {
-            TimecodeAnswer::Refused(Refusal::Timecode)
+            Err(Refusal::Timecode)
         }
     }
 
     // The timecode that a label names.
-    pub fn read(s: &[u8]) -> TimecodeAnswer
+    pub fn read(s: &[u8]) -> Result<Timecode, Refusal>
         ensures { of_timecode result ≡ read_timecode s.now }
     {
         if is_label(s) {
-            TimecodeAnswer::Is(Timecode { frame: frame_of(s) })
+            Ok(Timecode { frame: frame_of(s) })
         } else {
-            TimecodeAnswer::Refused(Refusal::Timecode)
+            Err(Refusal::Timecode)
         }
     }
 
@@ -96,14 +88,14 @@ impl Timecode {
     }
 
     // The label into a lent slice: 3 for a frame outside the day, then 9.
-    pub fn write(self, out: &mut [u8], at: usize) -> Written
+    pub fn write(self, out: &mut [u8], at: usize) -> Result<usize, Refusal>
         ensures { WritesIf (in_day self.frame) 3 out.old at (label self.frame) result out.new }
     {
         if self.frame < Timecode::DAY {
             let bytes = self.label();
             text::write_bytes(out, at, &bytes)
         } else {
-            Written::Refused(Refusal::Timecode)
+            Err(Refusal::Timecode)
         }
     }
 }

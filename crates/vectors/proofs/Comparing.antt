@@ -1,12 +1,10 @@
 -- What is found of a sheet. Assumes nothing.
-use Rattle.std.proofs.Common.{◌≡◌, ℕ, ◌+◌, ◌≤◌, Bool, true, false, not, ◌||◌, eqb, List, length, take, drop, sym, refl, ap, ◌∙◌, ap₂, arith, length-take, take_at, eq-eqb, ne_eqb, leb-true}
+use Rattle.std.proofs.Common.{◌≡◌, ℕ, ◌+◌, ◌≤◌, Bool, true, false, not, ◌||◌, eqb, List, length, take, drop, sym, refl, ap, ◌∙◌, ap₂, arith, length-take, take_at, eq-eqb, ne_eqb, leb-true, Result, Ok, Err}
 use Rattle.lists.specs.Lists.{same}
 use Rattle.lists.specs.Splice.{fits}
 use Rattle.lists.proofs.Cases.{chosen, other}
 use Rattle.refusal.specs.declared.Refusal.{Refusal}
 use Rattle.refusal.proofs.Answers.{took, declined}
-use Rattle.text.specs.declared.Written.{Written}
-use Rattle.text.specs.declared.Written.TheVariants.{To, Refused}
 use Rattle.text.specs.Write.{of_written, writing}
 use Rattle.text.specs.Steps.{Pieces}
 use Rattle.day.specs.Sheet.{sheet}
@@ -44,8 +42,8 @@ module _ (s : List ℕ) (n : ℕ) (shown : List ℕ) (k : ℕ) where
       check_differs g = sym (chosen _ (eq-eqb _ _ l) ∙ chosen _ (so _ (rw e at h)) ∙ other _ (ne_eqb _ _ (λ x. g (f ∙ x))))
 
 -- a slice that w was written into
-module _ {d w : List ℕ} {r : Written} {d' : List ℕ} (v : Pieces d 0 w r d') where
-  module _ (n : ℕ) (e : r ≡ To n) where
+module _ {d w : List ℕ} {r : Result ℕ Refusal} {d' : List ℕ} (v : Pieces d 0 w r d') where
+  module _ (n : ℕ) (e : r ≡ Ok n) where
     fitted : (fits d 0 w ≡ true) × (0 + length w ≡ n)
     unfolding writing
     fitted = took (fits d 0 w) (0 + length w) 9 (sym v.answer ∙ ap of_written e)
@@ -56,28 +54,28 @@ module _ {d w : List ℕ} {r : Written} {d' : List ℕ} (v : Pieces d 0 w r d') 
     pub within : n ≤ length d'
     within = omega (arith, ap length front, length-take n d', fitted.1)
 
-  unfitted : (k : Refusal) → r ≡ Refused k → fits d 0 w ≡ false
+  unfitted : (k : Refusal) → r ≡ Err k → fits d 0 w ≡ false
   unfolding writing
   unfitted k e = (declined (fits d 0 w) (0 + length w) 9 (sym v.answer ∙ ap of_written e)).0
 
-module _ {d : List ℕ} (day : List ℕ) {r : Written} {d' : List ℕ} (v : Pieces d 0 (sheet day) r d') (n : ℕ) (shown : List ℕ) (k : ℕ) where
-  pub sheet-there : (m : ℕ) → r ≡ To m → {q : Found} → q ≡ compared (take m d') n shown k → q ≡ sheet_compared d day n shown k
+module _ {d : List ℕ} (day : List ℕ) {r : Result ℕ Refusal} {d' : List ℕ} (v : Pieces d 0 (sheet day) r d') (n : ℕ) (shown : List ℕ) (k : ℕ) where
+  pub sheet-there : (m : ℕ) → r ≡ Ok m → {q : Found} → q ≡ compared (take m d') n shown k → q ≡ sheet_compared d day n shown k
   unfolding sheet_compared
   sheet-there m e f = f ∙ ap (λ (s : List ℕ). compared s n shown k) (front v m e) ∙ sym (chosen _ (fitted v m e).0)
 
-  pub no_room : (j : Refusal) → r ≡ Refused j → Length ≡ sheet_compared d day n shown k
+  pub no_room : (j : Refusal) → r ≡ Err j → Length ≡ sheet_compared d day n shown k
   unfolding sheet_compared
   no_room j e = sym (other _ (unfitted v j e))
 
 -- a day of the file
 pub built :
-    (s : List ℕ) (l : Line) {d h b t : List ℕ} {r : Written} {d' : List ℕ} → h ≡ part s l.at l.head → b ≡ part s (l.at + l.head) l.body →
+    (s : List ℕ) (l : Line) {d h b t : List ℕ} {r : Result ℕ Refusal} {d' : List ℕ} → h ≡ part s l.at l.head → b ≡ part s (l.at + l.head) l.body →
     t ≡ part s (l.at + l.head + l.body) l.tail → Pieces d 0 (day_of h l.times b t) r d' → Pieces d 0 (day_at s l) r d'
 built s l p q u v = rw (← p, ← q, ← u) v
 
-module _ (s : List ℕ) (l : Line) {d : List ℕ} {r : Written} {d' : List ℕ} (v : Pieces d 0 (day_at s l) r d') (o : List ℕ) where
+module _ (s : List ℕ) (l : Line) {d : List ℕ} {r : Result ℕ Refusal} {d' : List ℕ} (v : Pieces d 0 (day_at s l) r d') (o : List ℕ) where
   pub day-there :
-      (m : ℕ) → r ≡ To m → {q : Found} {x : List ℕ} → x ≡ shown_at s l → q ≡ sheet_compared o (take m d') l.sheet x l.check →
+      (m : ℕ) → r ≡ Ok m → {q : Found} {x : List ℕ} → x ≡ shown_at s l → q ≡ sheet_compared o (take m d') l.sheet x l.check →
       q ≡ found_at s l d o
   unfolding found_at
   day-there m e g f =
@@ -85,6 +83,6 @@ module _ (s : List ℕ) (l : Line) {d : List ℕ} {r : Written} {d' : List ℕ} 
       ∙ ap₂ (λ (day x : List ℕ). sheet_compared o day l.sheet x l.check) (front v m e) g
       ∙ sym (chosen _ (fitted v m e).0)
 
-  pub no_day : (j : Refusal) → r ≡ Refused j → TooLong ≡ found_at s l d o
+  pub no_day : (j : Refusal) → r ≡ Err j → TooLong ≡ found_at s l d o
   unfolding found_at
   no_day j e = sym (other _ (unfitted v j e))

@@ -1,12 +1,10 @@
 -- The numbers of a line. Assumes nothing.
-use Rattle.std.proofs.Common.{◌≡◌, ℕ, ◌+◌, ◌-◌, ◌<◌, ◌≤◌, Bool, true, false, ◌&&◌, leb, List, length, take, drop, sym, refl, ap, ◌∙◌, ap₂, arith, length-drop, w64, Fits, le-ltb, lt-ltb, ne_eqb, leb-true}
+use Rattle.std.proofs.Common.{◌≡◌, ℕ, ◌+◌, ◌-◌, ◌<◌, ◌≤◌, Bool, true, false, ◌&&◌, leb, List, length, take, drop, sym, refl, ap, ◌∙◌, ap₂, arith, length-drop, w64, Fits, le-ltb, lt-ltb, ne_eqb, leb-true, Result, Ok, Err}
 use Rattle.lists.specs.Lists.{up_to}
 use Rattle.lists.proofs.Cases.{chosen, other, snd_true}
 use Rattle.refusal.specs.declared.Refusal.{Refusal}
 use Rattle.refusal.specs.Answer.{number_of}
 use Rattle.refusal.proofs.Answers.{number-some}
-use Rattle.text.specs.declared.NumberAnswer.{NumberAnswer}
-use Rattle.text.specs.declared.NumberAnswer.TheVariants.{Is, Refused}
 use Rattle.text.specs.Number.{of_number, read_number}
 use Rattle.text.proofs.Reading.{number-within}
 use Rattle.vectors.specs.declared.Number.{Number}
@@ -15,11 +13,11 @@ use Rattle.vectors.specs.declared.Pair.{Pair}
 use Rattle.vectors.specs.Days.{start_at, of_field, with_field, next_in, next_number, line_at}
 use Rattle.vectors.specs.Pairs.{pair_at}
 
-module _ (p : Number) (at greatest : ℕ) (s : List ℕ) {a : NumberAnswer} (e : of_number a ≡ read_number 0 greatest s) where
-  pub field_is : (n : ℕ) → a ≡ Is n → (record { n = n; at = at; good = p.good } ≡ with_field p s at greatest) × (n ≤ greatest)
+module _ (p : Number) (at greatest : ℕ) (s : List ℕ) {a : Result ℕ Refusal} (e : of_number a ≡ read_number 0 greatest s) where
+  pub field_is : (n : ℕ) → a ≡ Ok n → (record { n = n; at = at; good = p.good } ≡ with_field p s at greatest) × (n ≤ greatest)
   field_is n q = (ap (of_field p at) (sym (ap of_number q) ∙ e), (number-within _ _ _ _ (sym (ap of_number q) ∙ e)).1)
 
-  pub field-not : (k : Refusal) → a ≡ Refused k → (record { n = 0; at = at; good = false } ≡ with_field p s at greatest) × (0 ≤ greatest)
+  pub field-not : (k : Refusal) → a ≡ Err k → (record { n = 0; at = at; good = false } ≡ with_field p s at greatest) × (0 ≤ greatest)
   field-not k q = (
     ap (λ (t : Bool). record { n = 0; at = at; good = t && p.good }) (sym (ne_eqb (number_of k) 0 (λ z. omega (arith, number-some k))))
         ∙ ap (of_field p at) (sym (ap of_number q) ∙ e),

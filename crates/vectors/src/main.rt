@@ -24,10 +24,10 @@ ghost use Rattle.vectors.specs.Days.{start_at, with_field, next_number, line_at,
 ghost use Rattle.vectors.specs.Tally.{agreeing, Counted, beginning, counted, stopped};
 ghost use Rattle.vectors.specs.Pairs.{pair_at, pair_found, next_pair, pairs_from};
 
+use refusal::Refusal;
 use std::io::Read;
 use std::rt::Files;
 use std::{fs, io, str};
-use text::{NumberAnswer, Written};
 
 // ---- numbers
 
@@ -62,12 +62,12 @@ impl Number {
         ensures n_le_greatest { result.n ≤ greatest }
     {
         match text::read_number(field, 0, greatest) {
-            NumberAnswer::Is(n) => Number {
+            Ok(n) => Number {
                 n,
                 at,
                 good: self.good,
             },
-            NumberAnswer::Refused(_) => Number {
+            Err(_) => Number {
                 n: 0,
                 at,
                 good: false,
@@ -207,16 +207,20 @@ fn check(s: &[u8]) -> u64
 // ---- a day
 
 // The head, the body so many times over, and the tail.
-fn build(day: &mut [u8], head: &[u8], times: u64, body: &[u8], tail: &[u8]) -> Written
+fn build(
+    day: &mut [u8],
+    head: &[u8],
+    times: u64,
+    body: &[u8],
+    tail: &[u8],
+) -> Result<usize, Refusal>
     ensures { Pieces day.old 0 (day_of head.now times body.now tail.now) result day.new }
 {
-    let mut written = text::write_bytes(day, 0, head);
-    let mut i: u64 = 0;
-    while i < times {
-        written = written.then_bytes(day, body);
-        i += 1;
+    let mut at = text::write_bytes(day, 0, head)?;
+    for _ in 0..times {
+        at = text::write_bytes(day, at, body)?;
     }
-    written.then_bytes(day, tail)
+    text::write_bytes(day, at, tail)
 }
 
 // What is found of a day or a pair: what differs first, or that the day is too long to be built.
@@ -253,8 +257,8 @@ fn compare_sheet(day: &[u8], long: usize, shown: &[u8], number: u64, out: &mut [
     ensures { result ≡ sheet_compared out.old day.now long shown.now number }
 {
     match daysheet::sheet(day, out) {
-        Written::To(n) => compare(&out[..n], long, shown, number),
-        Written::Refused(_) => Found::Length,
+        Ok(n) => compare(&out[..n], long, shown, number),
+        Err(_) => Found::Length,
     }
 }
 
@@ -284,14 +288,14 @@ fn one(file: &[u8], line: Line, day: &mut [u8], out: &mut [u8]) -> Found
         part(file, tail, line.tail),
     );
     match built {
-        Written::To(n) => compare_sheet(
+        Ok(n) => compare_sheet(
             &day[..n],
             line.sheet,
             part(file, shown, line.shown),
             line.check,
             out,
         ),
-        Written::Refused(_) => Found::TooLong,
+        Err(_) => Found::TooLong,
     }
 }
 

@@ -1,7 +1,8 @@
 -- What verbs do. Assumes nothing.
+use Rattle.std.specs.Prelude.{Result, Ok, Err}
 use mathlib.Core.Bool.{Bool, true, false, not, ◌&&◌}
 use mathlib.Core.Path.{◌≡◌, refl, sym, ap, ap₂, subst, ◌∙◌}
-use mathlib.Core.List.{List, [], ◌∷◌}
+use mathlib.Core.List.{List, []}
 use Prim.{tt}
 use Prim.Native.Nat.{ℕ, ◌+◌, ◌%◌, ◌≤◌, ◌<◌}
 use native.Mathlib.Nat.{mod-eq_of_lt}
@@ -14,8 +15,6 @@ use Rattle.lists.specs.Choice.{choose}
 use Rattle.lists.proofs.Cases.{tested, on, chosen, other, not_first, fst_true, snd_true}
 use Rattle.refusal.specs.declared.Refusal.{Refusal}
 use Rattle.refusal.specs.declared.Refusal.TheVariants.{Short}
-use Rattle.refusal.specs.declared.Verdict.{Verdict}
-use Rattle.refusal.specs.declared.Verdict.TheVariants.{Accepted, Refused}
 use Rattle.refusal.specs.Answer.{of_verdict, number_of}
 use Rattle.refusal.proofs.Answers.{number-some}
 use Rattle.server.specs.declared.Server.{Server}
@@ -66,7 +65,7 @@ unfolding choose
 swapped true x y = refl
 swapped false x y = refl
 
-module _ {t b : ℕ} {s : Server} {n : Verdict} where
+module _ {t b : ℕ} {s : Server} {n : Result (Unit {0}) Refusal} where
   pub cut_does : {w : Bool} → of_verdict n ≡ choose w 0 15 → Does t Cut b s w (record { verdict = n; said = says.One word.Cut; server = s; link = false })
   unfolding verb_happens
   cut_does e = record { number = e; told = refl; server = nothing t s _; link = refl }
@@ -93,30 +92,30 @@ others_do Mend not_cut not_mend n e s l = absurd (not_mend refl)
 
 module _ (c : State) (o : Outcome) {d : List ℕ} where
   -- what a call gives, but for the channel
-  pub told : {v : Verdict} {n : ℕ} {x : State} {d' : List ℕ} → Gives c o d v n x d' → Gives c o d v n (channel_in c o (length d)) d'
+  pub told : {v : Result (Unit {0}) Refusal} {n : ℕ} {x : State} {d' : List ℕ} → Gives c o d v n x d' → Gives c o d v n (channel_in c o (length d)) d'
   told g = record { number = g.number; written = g.written; channel = refl; slice = g.slice }
 
   module _ {d' : List ℕ} {r : ℕ} (e : o.number ≡ 0) (q : Says true d 0 o.lines r d') where
-    pub told-short : length d < r → Gives c o d (Refused Short) 0 (channel_in c o (length d)) d'
+    pub told-short : length d < r → Gives c o d (Err Short) 0 (channel_in c o (length d)) d'
     told-short h =
         let long = beyond (says-out q) h in
         rw (q.slice ∙ other _ (lt-leb (0 + length o.lines) (length d) (omega (arith, long)))) (told (gives-not c o d Short (is-short o (length d) e long)))
 
-    pub told-all : r ≤ length d → Gives c o d Accepted r (channel_in c o (length d)) d'
+    pub told-all : r ≤ length d → Gives c o d (Ok tt) r (channel_in c o (length d)) d'
     told-all h =
         let fit = within (says-out q) h in
         told (gives_so c o d (is-long o (length d) e fit.0) fit.1 refl ((says-out q).is refl (omega (arith, fit.0))))
 
   -- the channel by the verdict
-  module _ {v : Verdict} {n : ℕ} {d' : List ℕ} (g : Gives c o d v n (channel_in c o (length d)) d') where
-    as_allowed : {x : State} → v ≡ Accepted → (o.number ≡ 0 → o.channel ≡ x) → Gives c o d v n x d'
+  module _ {v : Result (Unit {0}) Refusal} {n : ℕ} {d' : List ℕ} (g : Gives c o d v n (channel_in c o (length d)) d') where
+    as_allowed : {x : State} → v ≡ Ok tt → (o.number ≡ 0 → o.channel ≡ x) → Gives c o d v n x d'
     unfolding number_in channel_in
     as_allowed h f =
         let z : number_in o (length d) ≡ 0 = sym g.number ∙ ap of_verdict h in
         let none = on (tested (eqb o.number 0)) (λ t. eqb-true _ _ t) (λ t. sym (other _ t) ∙ z) in
         record { number = g.number; written = g.written; channel = sym (chosen _ (eq-eqb _ 0 z) ∙ f none); slice = g.slice }
 
-    as_refused : {x : State} {k : Refusal} → v ≡ Refused k → x ≡ c → Gives c o d v n x d'
+    as_refused : {x : State} {k : Refusal} → v ≡ Err k → x ≡ c → Gives c o d v n x d'
     unfolding channel_in
     as_refused {x} {k} h f =
         let z : number_in o (length d) ≡ number_of k = sym g.number ∙ ap of_verdict h in
@@ -198,7 +197,7 @@ module _ (c : State) (v : Verb) (a b : ℕ) {x y : ℕ} (p : x ≡ place_of c a)
         ap (λ (h : ℕ). lines_of c.frame a (verb_said v (verb_happens v b (verb_answer v b (place c h))))) (sym (first-at (has-places (number ∙ z))))
         ∙ sym (ap (lines_of c.frame a) w.told))
 
-    verb-allowed : r.verdict ≡ Accepted → Gives c (verb_outcome c v a b) d r.verdict r.written (put c (x % most) (y % most) e.server e.link) d'
+    verb-allowed : r.verdict ≡ Ok tt → Gives c (verb_outcome c v a b) d r.verdict r.written (put c (x % most) (y % most) e.server e.link) d'
     unfolding did
     verb-allowed h =
         as_allowed c (verb_outcome c v a b) gives h
@@ -209,7 +208,7 @@ module _ (c : State) (v : Verb) (a b : ℕ) {x y : ℕ} (p : x ≡ place_of c a)
         (ap (set c.servers (x % most)) w.server ∙ ap (λ (i : ℕ). set c.servers i (after c.frame (place c i) (verb_happens v b (verb_answer v b (place c i))))) l)
         (ap (set c.whole (link_of (x % most) (y % most))) w.link ∙ links-same c v a b l (second_at k))))
 
-    verb-refused : {k : Refusal} → r.verdict ≡ Refused k → Gives c (verb_outcome c v a b) d r.verdict r.written c d'
+    verb-refused : {k : Refusal} → r.verdict ≡ Err k → Gives c (verb_outcome c v a b) d r.verdict r.written c d'
     verb-refused h = as_refused c (verb_outcome c v a b) gives h refl
 
     pub verb_decided : Decided c v a b x y d (record { verdict = r.verdict; written = r.written; server = e.server; link = e.link }) d'
@@ -226,12 +225,12 @@ tells_as {t} {u} {n} a k {d} {r} {d'} p g = subst (λ (m : ℕ). Tells n (lines_
 
 -- ---- the answer
 
-pub not-refused : {v : Verdict} (k : Refusal) → v ≡ Accepted → v ≡ Refused k → ⊥
+pub not-refused : {v : Result (Unit {0}) Refusal} (k : Refusal) → v ≡ Ok tt → v ≡ Err k → ⊥
 not-refused k e f = let z : ◌≡◌ {A = ℕ} 0 1 = cc in omega arith
 
 module _ {t : ℕ} {w : List ℕ} {l : List Bool} {v : Verb} {a b : ℕ} {d : List ℕ} {r : Acted} {w' : List ℕ} {l' : List Bool} {d' : List ℕ} where
   pub acted :
       Keeps w w' →
       ((p : Period) → Gives (state_of t p (servers_of w) l) (verb_outcome (state_of t p (servers_of w) l) v a b) d r.verdict r.written (state_of t p (servers_of w') l') d') →
-      ((k : Refusal) → r.verdict ≡ Refused k → (w' ≡ w) × (l' ≡ l)) → Acts t w l v a b d r w' l' d'
+      ((k : Refusal) → r.verdict ≡ Err k → (w' ≡ w) × (l' ≡ l)) → Acts t w l v a b d r w' l' d'
   acted k g f = record { gives = g; words = λ p. becomes k (ap (λ (c : State). c.servers) (g p).channel); same = f }

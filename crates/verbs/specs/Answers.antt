@@ -1,7 +1,6 @@
 -- What a verb answers, and what it makes of the servers and of the links.
-use Rattle.std.specs.Prelude.{Bool, List, ◌≡◌, ℕ, length}
+use Rattle.std.specs.Prelude.{Bool, List, ◌≡◌, ℕ, length, Err}
 use Rattle.refusal.specs.declared.Refusal.{Refusal}
-use Rattle.refusal.specs.declared.Verdict.TheVariants.{Refused}
 use Rattle.periods.specs.declared.Period.{Period}
 use Rattle.roles.specs.declared.Verb.{Verb}
 use Rattle.group.specs.Outcome.{channel_in}
@@ -22,4 +21,4 @@ pub record Acts (t : ℕ) (w : List ℕ) (l : List Bool) (v : Verb) (a b : ℕ) 
   pub gives : (p : Period) → Gives (state_of t p (servers_of w) l) (verb_outcome (state_of t p (servers_of w) l) v a b) d r.verdict r.written (state_of t p (servers_of w') l') d'
   pub words : (p : Period) → Becomes w (channel_in (state_of t p (servers_of w) l) (verb_outcome (state_of t p (servers_of w) l) v a b) (length d)).servers w'
   -- where it is refused, each lent number and each link is as it was
-  pub same : (k : Refusal) → r.verdict ≡ Refused k → (w' ≡ w) × (l' ≡ l)
+  pub same : (k : Refusal) → r.verdict ≡ Err k → (w' ≡ w) × (l' ≡ l)

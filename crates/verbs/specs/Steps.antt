@@ -1,8 +1,7 @@
 -- What private functions answer. Nothing is promised here.
-use Rattle.std.specs.Prelude.{Bool, true, false, not, ◌&&◌, ◌≡◌, List, ℕ, ◌%◌, ltb, eqb, length, set}
+use Rattle.std.specs.Prelude.{Bool, true, false, not, ◌&&◌, ◌≡◌, List, ℕ, ◌%◌, ltb, eqb, length, set, Ok, Err}
 use Rattle.lists.specs.Choice.{choose}
 use Rattle.refusal.specs.declared.Refusal.{Refusal}
-use Rattle.refusal.specs.declared.Verdict.TheVariants.{Accepted, Refused}
 use Rattle.refusal.specs.Answer.{of_verdict}
 use Rattle.server.specs.declared.Server.{Server}
 use Rattle.roles.specs.declared.Verb.{Verb}
@@ -65,8 +64,8 @@ put c i j s w = record { frame = c.frame; period = c.period; servers = set c.ser
 -- of the verb v on the channel c, with its identities at the places x and y: what is handed back
 -- where it is allowed, and where it is not
 pub record Decided (c : State) (v : Verb) (a b x y : ℕ) (d : List ℕ) (r : Made) (d' : List ℕ) : Type 0 where
-  pub allowed : r.verdict ≡ Accepted → Gives c (verb_outcome c v a b) d r.verdict r.written (put c (x % most) (y % most) r.server r.link) d'
-  pub refused : (k : Refusal) → r.verdict ≡ Refused k → Gives c (verb_outcome c v a b) d r.verdict r.written c d'
+  pub allowed : r.verdict ≡ Ok tt → Gives c (verb_outcome c v a b) d r.verdict r.written (put c (x % most) (y % most) r.server r.link) d'
+  pub refused : (k : Refusal) → r.verdict ≡ Err k → Gives c (verb_outcome c v a b) d r.verdict r.written c d'
 
 -- so it is for every channel with this server and this link at these places
 abbrev pub Decides : ℕ → Verb → ℕ → ℕ → ℕ → ℕ → Server → Bool → List ℕ → Made → List ℕ → Type 0

@@ -17,21 +17,21 @@ ghost use Rattle.verbs.specs.Steps.{known_at, Does, Tells, Decides, put};
 
 use group::{Links, Servers, State, Table};
 use places::Packed;
-use refusal::{Refusal, Verdict};
+use refusal::Refusal;
 use roles::{Said, Verb, Word};
 use server::Server;
 
 // The verdict on a verb, and how many bytes it wrote.
 #[derive(Clone, Copy)]
 pub struct Acted {
-    pub verdict: Verdict,
+    pub verdict: Result<(), Refusal>,
     pub written: usize,
 }
 
 // What a verb answers on a state: where it is refused, nothing written and the same state.
 #[derive(Clone, Copy)]
 pub struct Answered {
-    pub verdict: Verdict,
+    pub verdict: Result<(), Refusal>,
     pub written: usize,
     pub state: State,
 }
@@ -40,7 +40,7 @@ pub struct Answered {
 // refused, only the verdict counts.
 #[derive(Clone, Copy)]
 struct Deed {
-    verdict: Verdict,
+    verdict: Result<(), Refusal>,
     said: Said,
     server: Server,
     link: bool,
@@ -64,16 +64,23 @@ fn known(verb: Verb, a: u16, b: u16, i: usize, j: usize) -> bool
 }
 
 // 2, 8, and what the state says.
-fn judge(verb: Verb, a: u16, b: u16, i: usize, j: usize, allowed: Verdict) -> Verdict
+fn judge(
+    verb: Verb,
+    a: u16,
+    b: u16,
+    i: usize,
+    j: usize,
+    allowed: Result<(), Refusal>,
+) -> Result<(), Refusal>
     ensures { of_verdict result ≡ choose (names_nobody verb a b) 2 (choose (known_at verb a b i j) (of_verdict allowed) 8) }
 {
     if names_nobody(verb, a, b) {
-        return Verdict::Refused(Refusal::Number);
+        return Err(Refusal::Number);
     }
     if known(verb, a, b, i, j) {
         allowed
     } else {
-        Verdict::Refused(Refusal::Identity)
+        Err(Refusal::Identity)
     }
 }
 
@@ -88,14 +95,10 @@ fn second_place(words: &Packed, verb: Verb, b: u16) -> usize
     }
 }
 
-fn allow_link(can: bool) -> Verdict
+fn allow_link(can: bool) -> Result<(), Refusal>
     ensures { of_verdict result ≡ choose can 0 15 }
 {
-    if can {
-        Verdict::Accepted
-    } else {
-        Verdict::Refused(Refusal::Link)
-    }
+    if can { Ok(()) } else { Err(Refusal::Link) }
 }
 
 // What the state says: 12 to 15.
@@ -131,10 +134,10 @@ fn attempt(verb: Verb, frame: u32, b: u16, s: Server, link: bool) -> Deed
 }
 
 fn silent(k: Refusal) -> Acted
-    ensures { result ≡ record { verdict = Verdict.Refused k; written = 0 } }
+    ensures { result ≡ record { verdict = Err k; written = 0 } }
 {
     Acted {
-        verdict: Verdict::Refused(k),
+        verdict: Err(k),
         written: 0,
     }
 }
@@ -149,18 +152,24 @@ fn say(said: Said, frame: u32, identity: u16, out: &mut [u8]) -> Acted
         silent(Refusal::Short)
     } else {
         Acted {
-            verdict: Verdict::Accepted,
+            verdict: Ok(()),
             written,
         }
     }
 }
 
-fn tell(verdict: Verdict, said: Said, frame: u32, identity: u16, out: &mut [u8]) -> Acted
+fn tell(
+    verdict: Result<(), Refusal>,
+    said: Said,
+    frame: u32,
+    identity: u16,
+    out: &mut [u8],
+) -> Acted
     ensures { Tells (of_verdict verdict) (lines_of frame identity said) out.old result out.new }
 {
     match verdict {
-        Verdict::Accepted => say(said, frame, identity, out),
-        Verdict::Refused(k) => silent(k),
+        Ok(()) => say(said, frame, identity, out),
+        Err(k) => silent(k),
     }
 }
 
@@ -168,7 +177,7 @@ fn tell(verdict: Verdict, said: Said, frame: u32, identity: u16, out: &mut [u8])
 // Where it is refused, these do not count.
 #[derive(Clone, Copy)]
 struct Made {
-    verdict: Verdict,
+    verdict: Result<(), Refusal>,
     written: usize,
     server: Server,
     link: bool,
@@ -258,8 +267,8 @@ pub fn act(
     let verdict = done.verdict;
     let server = done.server;
     match verdict {
-        Verdict::Accepted => put(words, whole, i, j, server, done.link),
-        Verdict::Refused(_) => {}
+        Ok(()) => put(words, whole, i, j, server, done.link),
+        Err(_) => {}
     }
     Acted {
         verdict,
@@ -326,7 +335,7 @@ pub fn next(state: State, verb: Verb, a: u16, b: u16, out: &mut [u8]) -> Answere
     let verdict = done.verdict;
     let server = done.server;
     match verdict {
-        Verdict::Accepted => {
+        Ok(()) => {
             let after = replaced(state, i, j, server, done.link);
             Answered {
                 verdict,
@@ -334,7 +343,7 @@ pub fn next(state: State, verb: Verb, a: u16, b: u16, out: &mut [u8]) -> Answere
                 state: after,
             }
         }
-        Verdict::Refused(_) => Answered {
+        Err(_) => Answered {
             verdict,
             written: done.written,
             state,

@@ -8,11 +8,11 @@ use Rattle.calls.proofs.Going.{how_many}
 use Rattle.calls.proofs.Ending.{ends_unopened, ends-short, ends}
 use Rattle.calls.proofs.run_list.Goals as goal
 
-pub returns-in-Refused : goal.returns-in-Refused
-returns-in-Refused c =
+pub returns-in-Err : goal.returns-in-Err
+returns-in-Err c =
     let a = c.args in
     ends_unopened a.table a.period a.calls.now a.out.now a.numbers.now c.refused.ensures
-    (sym c.fresh-opened.ensures.number ∙ ap of_verdict c.in-Refused.is)
+    (sym c.fresh-opened.ensures.number ∙ ap of_verdict c.in-Err.is)
 
 pub returns-then-calls-numbers : goal.returns-then-calls-numbers
 returns-then-calls-numbers c =

@@ -1,25 +1,16 @@
-use mathlib.Core.Path.{refl, sym, ◌∙◌}
-use Prim.Native.Nat.{◌-◌}
-use native.Mathlib.Omega.{arith}
-use Rattle.lists.proofs.Cases.{clash, length_mapped}
-use Rattle.lists.proofs.AnyLoop as any
-use Rattle.channel.proofs.Resting.{quiet_next}
-use borrow.Author.Rules.{rules}
+use Rattle.std.proofs.Common.{◌≡◌, ◌∙◌, rules}
+use borrow.Author.Tests.{tests}
+use mathlib.Core.Path.{sym}
+use Rattle.std.specs.List.{list_any}
+use Rattle.std.proofs.lemmas.Iterator.{YieldsList-from_slice}
+use Rattle.std.proofs.lemmas.Iterator.Search.{any_from_yields_List}
+use Rattle.lists.proofs.Cases.{length_mapped, not_so}
+use Rattle.channel.proofs.Resting.{stirring, quiet_next}
 use Rattle.channel.proofs.quiet.Goals as goal
 
-pub loop-i-init : goal.loop-i-init
-loop-i-init c = (c.requires, any.begin (omega arith))
-
-pub bounds-state-i : goal.bounds-state-i
-bounds-state-i c = search (rules, length_mapped)
-
-pub returns-then-stirs : goal.returns-then-stirs
-returns-then-stirs c e = absurd (clash e refl)
-
-pub loop-i-preserved : goal.loop-i-preserved
-loop-i-preserved c =
-    let v = c.loop-i.invariant in
-    (v.0, any.miss v.1 (omega arith) (rw v.0 at (sym c.stirs.ensures ∙ c.if-stirs.false)))
-
 pub returns : goal.returns
-returns c e = quiet_next c.args.state (search (rules, length_mapped)) (any.none c.loop-i.invariant.1 c.loop-i-test.false)
+returns c e =
+    let found : c.any.result ≡ list_any (stirring c.args.state) c.args.state.servers =
+    any_from_yields_List (stirring c.args.state) _ _ c.any.result c.any.ensures.ran (YieldsList-from_slice c.args.state.servers cc) (λ x b q k. search (rules, tests))
+    in
+    quiet_next c.args.state (search (rules, length_mapped)) (sym found ∙ not_so c.any.result e)

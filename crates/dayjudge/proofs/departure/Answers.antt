@@ -52,4 +52,4 @@ loop-due-preserved c =
 
 pub returns : goal.returns
 returns c =
-    rests-end c.begin-judge.ensures.laws.judges c.loop-due.invariant (not_some _ (sym c.is_open.ensures ∙ c.loop-due-test.false)) c.judgement-judgement.ensures c.found.ensures
+    rests-end c.begin-judge.ensures.laws.judges c.loop-due.invariant (not_some _ (sym c.is_open.ensures ∙ c.loop-due-test.false)) c.judgement.ensures c.unwrap_or.ensures

@@ -1,52 +1,43 @@
-use Prim.Native.Nat.{◌+◌, ◌-◌}
 use native.Mathlib.Omega.{arith}
-use lib.ListN.{get_or}
-use Rattle.departure.proofs.Comparing.{count-begin, count_turn, count-end, alike-small}
+use Prim.Native.Nat.{◌+◌, ◌-◌, ◌≤◌}
+use mathlib.Core.Path.{◌≡◌, ap}
+use mathlib.Core.Logic.{⊎_elim}
+use lib.ListN.{length, length-append}
+use Rattle.departure.proofs.Comparing.{walk-begin, walk-turn, count-end, alike-small}
 use Rattle.departure.proofs.count.Goals as goal
 
-pub loop-i-init : goal.loop-i-init
-loop-i-init c = count-begin _ _ _
+pub loop-d-init : goal.loop-d-init
+loop-d-init c =
+    let pre = c.requires in
+    let all : c.args.at + 128 - c.args.at ≡ 128 = omega arith in
+    let same = c.into_iter-d-iterator.ensures.into_iter_gives in
+    let first = c.zip-pairs.ensures.first in
+    let due = c.iter.ensures.rest in
+    let found = c.zip-pairs.ensures.second.0 in
+    rw (same, first, due, found, all) (walk-begin c.args.due.now c.args.found.now c.args.at pre.0 pre.1)
 
-pub overflow_add-at : goal.overflow_add-at
-overflow_add-at c = let p = c.requires in let d = p.0 in let f = p.1 in omega (arith, d, c.well_formed.0.0)
-
-pub bounds-due-at : goal.bounds-due-at
-bounds-due-at c = let p = c.requires in let d = p.0 in let f = p.1 in omega arith
-
-pub overflow_add-at-in-loop-i : goal.overflow_add-at-in-loop-i
-overflow_add-at-in-loop-i c = let p = c.requires in let d = p.0 in let f = p.1 in omega (arith, d, c.well_formed.0.0)
-
-pub bounds-found-at : goal.bounds-found-at
-bounds-found-at c = let p = c.requires in let d = p.0 in let f = p.1 in omega arith
-
-pub alike-equal-requires : goal.alike-equal-requires
-alike-equal-requires c = search
+pub loop-d-preserved : goal.loop-d-preserved
+loop-d-preserved c =
+    let pre = c.requires in
+    let goes = c.in-Some.ensures.steps in
+    rw (length-append c.loop-d.yielded) (walk-turn c.loop-d.invariant pre.0 pre.1 goes.0 goes.1 c.alike-equal.ensures c.line_feed-lines.ensures)
 
 pub overflow_add-equal : goal.overflow_add-equal
-overflow_add-equal c = let e = c.loop-i.invariant.equal in let a = c.args in let r = alike-small (get_or a.due.now (a.at + c.loop-i.i) 0) (get_or a.found.now (a.at + c.loop-i.i) 0) c.alike-equal.ensures in let k = c.loop-i-test.true in omega arith
-
-pub overflow_add-at-in-loop-i-2 : goal.overflow_add-at-in-loop-i-2
-overflow_add-at-in-loop-i-2 c = let p = c.requires in let d = p.0 in let f = p.1 in omega (arith, d, c.well_formed.0.0)
-
-pub bounds-due-at-in-loop-i : goal.bounds-due-at-in-loop-i
-bounds-due-at-in-loop-i c = let p = c.requires in let d = p.0 in let f = p.1 in omega arith
-
-pub line_feed-lines-requires : goal.line_feed-lines-requires
-line_feed-lines-requires c = search
-
-pub loop-i-preserved : goal.loop-i-preserved
-loop-i-preserved c =
-    let pre = c.requires in
-    count_turn c.loop-i.invariant c.loop-i-test.true pre.0 pre.1 c.alike-equal.ensures c.line_feed-lines.ensures
+overflow_add-equal c =
+    let v = c.loop-d.invariant in
+    let goes = ap length c.in-Some.ensures.steps.0 in
+    let long = v.due-long in
+    let equal = v.counting.equal in
+    let one = alike-small _ _ c.alike-equal.ensures in
+    omega arith
 
 pub overflow_add-lines : goal.overflow_add-lines
-overflow_add-lines c = let l = (loop-i-preserved c).lines in let k = c.loop-i-test.true in omega arith
-
-pub overflow_add-i : goal.overflow_add-i
-overflow_add-i c = let k = (loop-i-preserved c).size in omega arith
-
-pub loop-i-smaller : goal.loop-i-smaller
-loop-i-smaller c = let k = (loop-i-preserved c).size in omega arith
+overflow_add-lines c = let v = (loop-d-preserved c).counting in let few = v.lines in let size = v.size in omega arith
 
 pub returns : goal.returns
-returns c = count-end c.loop-i.invariant c.loop-i-test.false
+returns c =
+    let v = c.loop-d.invariant in
+    let due = v.due-long in
+    let found = v.found-long in
+    let over : 128 ≤ length c.loop-d.yielded = ⊎_elim (λ e. let none = e.1.0 in omega arith) (λ e. let none = e.1.0 in omega arith) c.in-None.ensures.steps in
+    count-end v.counting over

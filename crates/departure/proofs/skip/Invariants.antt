@@ -1,11 +1,7 @@
--- The loop's invariant: all before i are equal.
-use Prim.Native.Nat.{◌-◌}
-use lib.ListN.{length}
+-- The loop's invariant: all before the block are equal.
+use Prim.Native.Nat.{◌*◌}
 use Rattle.departure.specs.Steps.{Comparing}
 use Rattle.departure.proofs.skip.Given as goal
 
-abbrev pub invariant-loop-i : goal.invariant-loop-i
-invariant-loop-i l = Comparing l.due l.found l.lines l.i
-
-abbrev pub decreases-loop-i : goal.decreases-loop-i
-decreases-loop-i l = length l.due - l.i
+abbrev pub invariant-loop-block : goal.invariant-loop-block
+invariant-loop-block l = Comparing l.due l.found l.lines (128 * l.block)

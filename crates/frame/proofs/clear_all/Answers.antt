@@ -1,6 +1,6 @@
-use mathlib.Core.Path.{subst, sym, ap, ◌∙◌}
+use mathlib.Core.Path.{subst, sym, ap}
 use mathlib.Core.List.{List}
-use Prim.Native.Nat.{◌+◌, ◌-◌, ◌<◌}
+use Prim.Native.Nat.{◌+◌, ◌<◌}
 use native.Mathlib.Omega.{arith}
 use Rattle.lists.proofs.MapLoop.{Mapped}
 use Rattle.lists.proofs.MapLoop as map
@@ -15,12 +15,6 @@ use Rattle.frame.proofs.clear_all.Goals as goal
 
 pub loop-j-init : goal.loop-j-init
 loop-j-init c = (keeps-all, map.begin (long_of _))
-
-pub clear_at-requires : goal.clear_at-requires
-clear_at-requires c = (c.loop-j.invariant.0.long ∙ c.requires.0, omega (arith, c.requires.1.few, c.loop-j-test.true))
-
-pub overflow_add-j : goal.overflow_add-j
-overflow_add-j c = omega (arith, c.requires.1.few, c.loop-j-test.true)
 
 pub loop-j-preserved : goal.loop-j-preserved
 loop-j-preserved c =

@@ -1,10 +1,7 @@
-use Prim.Native.Nat.{◌-◌, ◌≤◌}
+use Prim.Native.Nat.{◌-◌}
 use lib.ListN.{replicate}
 use Rattle.frame.proofs.Hearings.{Hearing}
 use Rattle.frame.proofs.hear_beats.Given as goal
 
-abbrev pub invariant-loop-k : goal.invariant-loop-k
-invariant-loop-k l = (l.k ≤ l.n) × Hearing l.frame l.wet l.initial.now (replicate l.n l.h) l.initial.out l.initial.r l.now (replicate (l.n - l.k) l.h) l.out l.r
-
-abbrev pub decreases-loop-k : goal.decreases-loop-k
-decreases-loop-k l = l.n - l.k
+abbrev pub invariant-loop : goal.invariant-loop
+invariant-loop l = Hearing l.frame l.wet l.initial.now (replicate l.n l.h) l.initial.out l.initial.r l.now (replicate (l.n - l.counter) l.h) l.out l.r

@@ -3,7 +3,6 @@ use mathlib.Core.Path.{◌≡◌, refl, sym, ap, subst, ◌∙◌}
 use mathlib.Core.Bool.{Bool, true, ◌||◌}
 use mathlib.Core.Logic.{◌⊎◌, inl, inr}
 use Prim.Native.Nat.{ℕ, ◌-◌}
-use native.Mathlib.Omega.{arith}
 use borrow.Author.Tests.{leb-true, eqb-true}
 use lib.Dec.{eqb}
 use lib.ListN.{take}
@@ -13,10 +12,9 @@ use Rattle.server.specs.Server.{sent_any}
 use Rattle.places.specs.Words.{rank_number}
 use Rattle.places.specs.Roles.{is_backup, is_prospect}
 use Rattle.frame.specs.Steps.{SenderList, higher_at, heard_of, best_in, Near, next_by}
-use Rattle.frame.proofs.Hearings.{begin, turn, finish}
+use Rattle.frame.proofs.Hearings.{turn, finish}
 use Rattle.frame.proofs.Heeding.{silent-hears, prospect_is, stays_all, listened_all}
-use Rattle.frame.proofs.Lookup.{best_heard, inbox-all, heard-more, heard-none, heard-out}
-use borrow.Author.Rules.{rules}
+use Rattle.frame.proofs.Lookup.{best_heard, heard-more, heard-none, heard-out}
 use Rattle.frame.proofs.hear_several.Goals as goal
 
 -- the next of those that are heard is the next sender
@@ -27,45 +25,27 @@ next-is s w j last i m near v e = e ∙ ap (best_in s.ranks last 16) v.these ∙
 or-true : (x y : Bool) → (x || y) ≡ true → (x ≡ true) ⊎ (y ≡ true)
 or-true x y e = on (tested x) (λ t. inl t) (λ f. inr (sym (ap (λ (z : Bool). z || y) f) ∙ e))
 
-pub list_heard-m-requires : goal.list_heard-m-requires
-list_heard-m-requires c = (c.requires.0, (c.requires.1.listed, refl))
-
-pub only_higher-only-requires : goal.only_higher-only-requires
-only_higher-only-requires c = c.list_heard-m.ensures.listed
-
-pub loop-k-init : goal.loop-k-init
-loop-k-init c = let a = c.args in (search rules, begin (inbox-all (record { places = a.listed.now; ranks = a.ranks.now; sendings = a.sendings.now; count = a.count }) a.whole.now a.j))
-
-pub next_sender-i-requires : goal.next_sender-i-requires
-next_sender-i-requires c = c.list_heard-m.ensures.listed
-
-pub shape_of-out-then-i-ge-SERVERS : goal.shape_of-out-then-i-ge-SERVERS
-shape_of-out-then-i-ge-SERVERS c = c.loop-k.invariant.1.kept
-
 pub returns-then-i-ge-SERVERS : goal.returns-then-i-ge-SERVERS
 returns-then-i-ge-SERVERS c =
     let a = c.args in
-    let l = c.loop-k in
-    finish l.invariant.1 (heard-none (record { places = a.listed.now; ranks = a.ranks.now; sendings = a.sendings.now; count = a.count }) a.whole.now a.j (16 - l.k) l.last _ (next-is (record { places = a.listed.now; ranks = a.ranks.now; sendings = a.sendings.now; count = a.count }) a.whole.now a.j l.last _ _ _ c.list_heard-m.ensures c.next_sender-i.ensures) c.if-i-ge-SERVERS.true)
-
-pub shape_of-out-then-heard_enough : goal.shape_of-out-then-heard_enough
-shape_of-out-then-heard_enough c = c.loop-k.invariant.1.kept
+    let l = c.loop in
+    finish l.invariant (heard-none (record { places = a.listed.now; ranks = a.ranks.now; sendings = a.sendings.now; count = a.count }) a.whole.now a.j (16 - l.counter) l.last _ (next-is (record { places = a.listed.now; ranks = a.ranks.now; sendings = a.sendings.now; count = a.count }) a.whole.now a.j l.last _ _ _ c.list_heard-m.ensures c.next_sender-i.ensures) c.if-i-ge-SERVERS.true)
 
 pub returns-then-heard_enough : goal.returns-then-heard_enough
 returns-then-heard_enough c =
     let a = c.args in
-    let l = c.loop-k in
+    let l = c.loop in
     let s = l.now in
     let v = c.list_heard-m.ensures in
     let e = c.heard_enough.ensures in
     let own = c.rank_number-own.result in
     let only = c.only_higher-only.result in
     let next = next-is (record { places = a.listed.now; ranks = a.ranks.now; sendings = a.sendings.now; count = a.count }) a.whole.now a.j l.last _ _ _ v c.next_sender-i.ensures in
-    l.invariant.1.goes _ _
+    l.invariant.goes _ _
     (silent-hears
     (on (or-true _ _ (sym e.0 ∙ c.if-heard_enough.true))
     (λ so.
-    stays_all (record { places = a.listed.now; ranks = a.ranks.now; sendings = a.sendings.now; count = a.count }) a.whole.now a.j a.frame s (prospect_is s.role (fst_true (is_prospect s.role) _ so)) (fst_true (sent_any s) _ (snd_true (is_prospect s.role) _ so)) e.1 (16 - l.k) l.last _ next
+    stays_all (record { places = a.listed.now; ranks = a.ranks.now; sendings = a.sendings.now; count = a.count }) a.whole.now a.j a.frame s (prospect_is s.role (fst_true (is_prospect s.role) _ so)) (fst_true (sent_any s) _ (snd_true (is_prospect s.role) _ so)) e.1 (16 - l.counter) l.last _ next
     (λ h. leb-true _ _ (snd_true (sent_any s) _ (snd_true (is_prospect s.role) _ so))))
     (λ so.
     let all = sym c.only_higher-only.ensures ∙ fst_true only _ so in
@@ -75,34 +55,23 @@ returns-then-heard_enough c =
     listened_all (record { places = a.listed.now; ranks = a.ranks.now; sendings = a.sendings.now; count = a.count }) a.whole.now a.j a.frame s (fst_true (is_backup s.role) _ is) (eqb-true s.silence a.frame (fst_true (eqb s.silence a.frame) _ more)) e.1
     (subst (λ (n : ℕ). every (higher_at a.ranks.now a.sendings.now n) (heard_of a.whole.now a.j (take a.count a.listed.now)) ≡ true) (sym rank)
     (subst (λ (p : List ℕ). every (higher_at a.ranks.now a.sendings.now own) p ≡ true) v.these all))
-    (16 - l.k) l.last _ next)))
+    (16 - l.counter) l.last _ next)))
 
 pub hear_from-t-requires : goal.hear_from-t-requires
 hear_from-t-requires c = let v = c.requires.1 in let i = c.if-i-ge-SERVERS.false in (v.ranks _ i, v.sendings _ i)
 
-pub overflow_add-k : goal.overflow_add-k
-overflow_add-k c = omega (arith, c.loop-k-test.true)
-
-pub loop-k-smaller : goal.loop-k-smaller
-loop-k-smaller c = omega (arith, c.loop-k-test.true)
-
-pub loop-k-preserved : goal.loop-k-preserved
-loop-k-preserved c =
+pub loop-preserved : goal.loop-preserved
+loop-preserved c =
     let a = c.args in
-    let l = c.loop-k in
-    let h = c.loop-k-test.true in
-    let p = c.hear_from-t in (
-      omega (arith, h),
-      turn l.invariant.1
-          (heard-more (record { places = a.listed.now; ranks = a.ranks.now; sendings = a.sendings.now; count = a.count }) a.whole.now a.j l.k l.last _ h (next-is (record { places = a.listed.now; ranks = a.ranks.now; sendings = a.sendings.now; count = a.count }) a.whole.now a.j l.last _ _ _ c.list_heard-m.ensures c.next_sender-i.ensures) c.if-i-ge-SERVERS.false refl)
-          p.auto.out p.ensures,
-    )
-
-pub shape_of-out : goal.shape_of-out
-shape_of-out c = c.loop-k.invariant.1.kept
+    let l = c.loop in
+    let h = c.loop-test.true in
+    let p = c.hear_from-t in
+    turn l.invariant
+    (heard-more (record { places = a.listed.now; ranks = a.ranks.now; sendings = a.sendings.now; count = a.count }) a.whole.now a.j l.counter l.last _ h (next-is (record { places = a.listed.now; ranks = a.ranks.now; sendings = a.sendings.now; count = a.count }) a.whole.now a.j l.last _ _ _ c.list_heard-m.ensures c.next_sender-i.ensures) c.if-i-ge-SERVERS.false refl)
+    p.auto.out p.ensures
 
 pub returns : goal.returns
 returns c =
     let a = c.args in
-    let l = c.loop-k in
-    finish l.invariant.1 (heard-out (record { places = a.listed.now; ranks = a.ranks.now; sendings = a.sendings.now; count = a.count }) a.whole.now a.j l.k l.last c.loop-k-test.false)
+    let l = c.loop in
+    finish l.invariant (heard-out (record { places = a.listed.now; ranks = a.ranks.now; sendings = a.sendings.now; count = a.count }) a.whole.now a.j l.counter l.last c.loop-test.false)

@@ -1,5 +1,4 @@
 use mathlib.Core.Path.{◌∙◌, ap}
-use Prim.Native.Nat.{◌-◌}
 use native.Mathlib.Omega.{arith}
 use Rattle.places.specs.Words.{sending_number}
 use Rattle.places.proofs.Words.{fits-of}
@@ -8,12 +7,6 @@ use Rattle.frame.proofs.list_senders.Goals as goal
 
 pub loop-i-init : goal.loop-i-init
 loop-i-init c = list_begin c.requires.1.0 c.requires.1.1
-
-pub bounds-sendings-i : goal.bounds-sendings-i
-bounds-sendings-i c = omega (arith, c.requires.0.few)
-
-pub bounds-listed-count : goal.bounds-listed-count
-bounds-listed-count c = omega (arith, c.requires.0.few, c.loop-i.invariant.few)
 
 pub loop-i-preserved : goal.loop-i-preserved
 loop-i-preserved c =

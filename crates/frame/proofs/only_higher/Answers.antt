@@ -1,53 +1,39 @@
-use mathlib.Core.Path.{sym, ap, ◌∙◌}
-use Prim.Native.Nat.{◌-◌}
+use mathlib.Core.Bool.{Bool, ◌&&◌}
+use mathlib.Core.List.{List, [], ◌∷◌}
+use mathlib.Core.Path.{◌≡◌, refl, ap, ◌∙◌}
+use Prim.Native.Nat.{ℕ, ◌<◌}
 use native.Mathlib.Omega.{arith}
+use lib.ListN.{take, get_or}
 use lib.Seq.{get_or-take}
-use Rattle.lists.proofs.EachLoop.{test-begin, test-turn, test-fails, test-end}
-use Rattle.frame.specs.Steps.{higher_at}
+use Rattle.std.proofs.Common.{rules}
+use Rattle.std.proofs.lemmas.Grind.{get_or_default_zero}
+use Rattle.std.proofs.lemmas.Iterator.{YieldsList-from_slice}
+use Rattle.std.proofs.lemmas.Iterator.Adapters.{serves_from_places}
+use Rattle.std.proofs.lemmas.Iterator.Search.{all_from_yields_List}
+use Rattle.std.specs.List.{list_all}
+use Rattle.lists.specs.Lists.{every}
 use Rattle.frame.proofs.Lookup.{long}
+use Rattle.frame.specs.Steps.{higher_at}
 use Rattle.frame.proofs.only_higher.Goals as goal
 
-pub loop-k-init : goal.loop-k-init
-loop-k-init c = (c.requires, test-begin (long c.requires))
+pub all-requires-clause-callable : goal.all-requires-clause-callable
+all-requires-clause-callable c =
+    let near = take c.args.m c.args.near.now in
+    serves_from_places {all = near} (YieldsList-from_slice near (cc)) (λ x q k. search rules)
+    (λ x k h e.
+    let below : k < c.args.m = omega (arith, long c.requires) in
+    let at : x.now ≡ get_or c.args.near.now k 0 = e ∙ get_or_default_zero near k x.now h ∙ get_or-take c.args.m c.args.near.now k 0 below in
+    let place : x.now < 16 = omega (arith, c.requires.places k below) in
+    search (rules, place))
 
-pub offset_bounds-near-k : goal.offset_bounds-near-k
-offset_bounds-near-k c = omega (arith, c.loop-k.invariant.0.few, c.loop-k-test.true)
-
-pub bounds-near-k : goal.bounds-near-k
-bounds-near-k c = omega (arith, c.loop-k.invariant.0.few, c.loop-k-test.true)
-
-pub bounds-ranks-i : goal.bounds-ranks-i
-bounds-ranks-i c = c.loop-k.invariant.0.places _ c.loop-k-test.true
-
-pub offset_bounds-ranks-i : goal.offset_bounds-ranks-i
-offset_bounds-ranks-i c = omega (arith, c.loop-k.invariant.0.places _ c.loop-k-test.true)
-
-pub bounds-sendings-i : goal.bounds-sendings-i
-bounds-sendings-i c = c.loop-k.invariant.0.places _ c.loop-k-test.true
-
-pub offset_bounds-sendings-i : goal.offset_bounds-sendings-i
-offset_bounds-sendings-i c = omega (arith, c.loop-k.invariant.0.places _ c.loop-k-test.true)
-
-pub returns-then-not-higher_beats : goal.returns-then-not-higher_beats
-returns-then-not-higher_beats c =
-    let a = c.args in
-    let l = c.loop-k in
-    let h = c.loop-k-test.true in
-    test-fails 0 l.invariant.1 h
-    (ap (higher_at a.ranks.now a.sendings.now a.own) (get_or-take a.m a.near.now l.k 0 h) ∙ sym c.higher_beats.ensures ∙ c.if-not-higher_beats.true)
-
-pub overflow_add-k : goal.overflow_add-k
-overflow_add-k c = omega (arith, c.loop-k.invariant.0.few, c.loop-k-test.true)
-
-pub loop-k-preserved : goal.loop-k-preserved
-loop-k-preserved c =
-    let a = c.args in
-    let l = c.loop-k in
-    let h = c.loop-k-test.true in (
-      l.invariant.0,
-      test-turn 0 l.invariant.1 h
-          (ap (higher_at a.ranks.now a.sendings.now a.own) (get_or-take a.m a.near.now l.k 0 h) ∙ sym c.higher_beats.ensures ∙ c.if-not-higher_beats.false),
-    )
+-- the library's test of each element is the same
+all_every : (p : ℕ → Bool) (l : List ℕ) → list_all p l ≡ every p l
+all_every p [] = refl
+all_every p (x ∷ l) = ap (λ (t : Bool). p x && t) (all_every p l)
 
 pub returns : goal.returns
-returns c = test-end c.loop-k.invariant.1 c.loop-k-test.false
+returns c =
+    let a = c.args in
+    let test = higher_at a.ranks.now a.sendings.now a.own in
+    let near = take a.m a.near.now in
+    all_from_yields_List test _ _ _ c.all.ensures.ran (YieldsList-from_slice _ (cc)) (λ x b q k. search rules) ∙ all_every test near

@@ -1,19 +1,16 @@
-use mathlib.Core.Path.{◌∙◌, ap, subst}
-use Prim.Native.Nat.{◌-◌, ◌<◌}
-use Rattle.server.specs.declared.Server.{Server}
-use Rattle.places.specs.Words.{rank_number}
-use Rattle.frame.proofs.Listing.{rank-begin, rank-turn, rank-end}
+use mathlib.Core.Path.{◌≡◌, refl}
+use Prim.Native.Nat.{ℕ, ◌<◌}
+use native.Mathlib.Omega.{arith}
 use borrow.Author.Rules.{rules}
+use lib.ListN.{get_or}
+use Rattle.server.specs.Server.{absent}
+use Rattle.places.specs.Words.{servers_of, rank_number}
+use Rattle.frame.proofs.Filled.{filled_from}
 use Rattle.frame.proofs.ranks_of.Goals as goal
 
-pub loop-i-init : goal.loop-i-init
-loop-i-init c = rank-begin (search rules)
-
-pub loop-i-preserved : goal.loop-i-preserved
-loop-i-preserved c =
-    let e = c.server.ensures in
-    let a = c.rank_number-rank.ensures in
-    rank-turn c.loop-i.invariant c.loop-i-test.true (a.0 ∙ ap rank_number e) (subst (λ (s : Server). s.identity < 65536) e a.1.0) (subst (λ (s : Server). s.priority < 256) e a.1.1)
-
 pub returns : goal.returns
-returns c = rank-end c.loop-i.invariant c.loop-i-test.false
+returns c =
+    let l = servers_of c.args.words.now in
+    let P : ℕ → ℕ → Type 0 = λ i n. (n ≡ rank_number (get_or l i absent)) × (n < 16777216) in
+    let made = filled_from _ _ P (λ i n q k. search rules) c.from_fn.result 0 16 _ refl c.from_fn.ensures.items.each in
+    record { ranks = λ i h. (made i 0 (omega arith) (omega arith)).0; small = λ i h. (made i 0 (omega arith) (omega arith)).1 }

@@ -2,8 +2,5 @@ use Rattle.places.specs.Words.{servers_of}
 use Rattle.frame.specs.Steps.{Still}
 use Rattle.frame.proofs.still_from.Given as goal
 
-abbrev pub invariant-loop-n : goal.invariant-loop-n
-invariant-loop-n l = Still l.n (servers_of l.words)
-
-abbrev pub decreases-loop-n : goal.decreases-loop-n
-decreases-loop-n l = l.n
+abbrev pub invariant-loop-i : goal.invariant-loop-i
+invariant-loop-i l = Still l.i (servers_of l.words)

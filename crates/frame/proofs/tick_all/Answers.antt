@@ -1,6 +1,6 @@
-use mathlib.Core.Path.{refl, subst, sym, ◌∙◌}
+use mathlib.Core.Path.{refl, subst, sym}
 use mathlib.Core.List.{List}
-use Prim.Native.Nat.{◌+◌, ◌-◌, ◌<◌}
+use Prim.Native.Nat.{◌+◌, ◌<◌}
 use native.Mathlib.Omega.{arith}
 use Rattle.lists.proofs.MapLoop.{Mapped}
 use Rattle.lists.proofs.MapLoop as map
@@ -18,9 +18,6 @@ use Rattle.frame.proofs.tick_all.Goals as goal
 pub loop-j-init : goal.loop-j-init
 loop-j-init c = (keeps-all, (map.begin (long_of _), out.begin refl))
 
-pub tick_at-r-requires : goal.tick_at-r-requires
-tick_at-r-requires c = (c.loop-j.invariant.0.long ∙ c.requires.0, omega (arith, c.requires.1.1.few))
-
 pub loop-j-preserved : goal.loop-j-preserved
 loop-j-preserved c =
     let a = c.args in
@@ -34,9 +31,6 @@ loop-j-preserved c =
         out.turn l.invariant.1.1 (ticks-more (a.before + 1) a.period (servers_of a.words.now) l.j absent (rw (long_of a.words.now) h)) c.tick_at-r.auto.out q.1,
       ),
     )
-
-pub shape_of-out : goal.shape_of-out
-shape_of-out c = c.loop-j.invariant.1.1.kept
 
 pub returns : goal.returns
 returns c =

@@ -1,19 +1,17 @@
-use mathlib.Core.Path.{refl, sym}
-use Prim.Native.Nat.{◌-◌}
+use mathlib.Core.Path.{◌≡◌, refl}
+use Prim.Native.Nat.{ℕ}
 use native.Mathlib.Omega.{arith}
-use Rattle.lists.proofs.Cases.{clash}
-use Rattle.frame.proofs.Still.{still-begin}
-use Rattle.frame.proofs.Loud.{loud_begin, loud_turn, loud_end}
+use lib.ListN.{get_or}
+use Rattle.std.proofs.Common.{rules}
+use Rattle.std.specs.Bool.{⊤}
+use Rattle.std.proofs.lemmas.Iterator.{YieldsList-from_range, cases_from_all}
+use Rattle.server.specs.Server.{absent}
+use Rattle.places.specs.Words.{servers_of, sending_number}
+use Rattle.frames.proofs.Below.{all_below}
 use Rattle.frames.proofs.nobody_sent.Goals as goal
 
-pub loop-i-init : goal.loop-i-init
-loop-i-init c = loud_begin
-
-pub returns-then-not-sent_none : goal.returns-then-not-sent_none
-returns-then-not-sent_none c e = absurd (clash e refl)
-
-pub loop-i-preserved : goal.loop-i-preserved
-loop-i-preserved c = loud_turn c.loop-i.invariant (sym (c.sent_none.ensures (c.if-not-sent_none.false))) (omega arith) (omega arith)
-
 pub returns : goal.returns
-returns c e = loud_end still-begin c.loop-i.invariant c.loop-i-test.false
+returns c e =
+    let none : ℕ → Type 0 = λ i. sending_number (get_or (servers_of c.args.words.now) i absent) ≡ 0 in
+    let all = cases_from_all _ _ _ none (λ i. ⊤) c.all.ensures.ran (YieldsList-from_range 0 16 16 refl refl) (λ i q k. search rules) (λ i q k. tt) in
+    record { bound = λ i h. omega (arith, all_below _ _ 16 none all e i h) }

@@ -1,6 +1,6 @@
 use mathlib.Core.Path.{refl, subst, sym, ap, ◌∙◌}
 use mathlib.Core.List.{List}
-use Prim.Native.Nat.{◌+◌, ◌-◌, ◌<◌}
+use Prim.Native.Nat.{◌+◌, ◌<◌}
 use native.Mathlib.Omega.{arith}
 use lib.ListN.{set}
 use Rattle.lists.proofs.MapLoop.{Mapped}
@@ -15,9 +15,6 @@ use Rattle.frames.proofs.settle.Goals as goal
 
 pub loop-i-init : goal.loop-i-init
 loop-i-init c = (keeps-all, map.begin (long_of _))
-
-pub settle_at-requires : goal.settle_at-requires
-settle_at-requires c = (c.loop-i.invariant.0.long ∙ c.requires.0, (omega (arith, c.loop-i-test.true), c.requires.1.0))
 
 pub loop-i-preserved : goal.loop-i-preserved
 loop-i-preserved c =

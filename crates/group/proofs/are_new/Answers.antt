@@ -1,23 +1,12 @@
-use mathlib.Core.Path.{sym, ◌∙◌}
-use Prim.Native.Nat.{◌-◌}
-use borrow.Author.Rules.{rules}
-use Rattle.lists.proofs.Cases.{length_mapped}
-use Rattle.lists.proofs.EachLoop.{test-begin, test-turn, test-fails, test-end}
-use Rattle.server.specs.Server.{absent}
+use Rattle.std.proofs.Common.{◌∙◌, rules}
+use borrow.Author.Tests.{tests}
+use Rattle.std.proofs.lemmas.Iterator.{YieldsList-from_slice}
+use Rattle.std.proofs.lemmas.Iterator.Search.{all_from_yields_List}
 use Rattle.group.specs.Table.{is_new}
+use Rattle.group.proofs.Chains.{all-every}
 use Rattle.group.proofs.are_new.Goals as goal
 
-pub loop-i-init : goal.loop-i-init
-loop-i-init c = test-begin (search (rules, length_mapped))
-
-pub bounds-servers-i : goal.bounds-servers-i
-bounds-servers-i c = search (rules, length_mapped)
-
-pub returns-then-not-is_new : goal.returns-then-not-is_new
-returns-then-not-is_new c = test-fails absent c.loop-i.invariant c.loop-i-test.true (sym c.is_new.ensures ∙ c.if-not-is_new.true)
-
-pub loop-i-preserved : goal.loop-i-preserved
-loop-i-preserved c = test-turn absent c.loop-i.invariant c.loop-i-test.true (sym c.is_new.ensures ∙ c.if-not-is_new.false)
-
 pub returns : goal.returns
-returns c = test-end c.loop-i.invariant c.loop-i-test.false
+returns c =
+    all_from_yields_List is_new _ _ _ c.all.ensures.ran (YieldsList-from_slice c.args.servers cc) (λ x b q k. search (rules, tests))
+    ∙ all-every is_new c.args.servers

@@ -1,21 +1,18 @@
-use Prim.Native.Nat.{◌-◌}
-use native.Mathlib.Omega.{arith}
-use borrow.Author.Rules.{rules}
+use Rattle.std.proofs.Common.{◌≡◌, ◌∙◌, length, rules, arith}
+use Rattle.std.proofs.lemmas.Iterator.{YieldsList-from_slice, YieldsList-from_map}
+use Rattle.std.proofs.lemmas.Iterator.Consumers.{sum_by_from_yields_List, fits_by_from_yields_list}
 use Rattle.lists.proofs.Cases.{length_mapped}
-use Rattle.group.proofs.Tables.{count-begin, count_turn, count-end}
+use Rattle.group.proofs.Tables.{one_of, sum_counts, counted-few}
 use Rattle.group.proofs.count.Goals as goal
 
-pub loop-i-init : goal.loop-i-init
-loop-i-init c = count-begin (search (rules, length_mapped))
-
-pub bounds-servers-i : goal.bounds-servers-i
-bounds-servers-i c = search (rules, length_mapped)
-
-pub overflow_add-n : goal.overflow_add-n
-overflow_add-n c = let v = count_turn c.loop-i.invariant c.loop-i-test.true c.one-n.ensures in omega (arith, v.few)
-
-pub loop-i-preserved : goal.loop-i-preserved
-loop-i-preserved c = count_turn c.loop-i.invariant c.loop-i-test.true c.one-n.ensures
+pub sum-requires-clause-fits : goal.sum-requires-clause-fits
+sum-requires-clause-fits c =
+    fits_by_from_yields_list one_of c.args.servers _ _
+    (YieldsList-from_map _ one_of (YieldsList-from_slice c.args.servers cc) c.map.ensures.closure (λ x r q k. search rules))
+    (let long : length c.args.servers ≡ 16 = search (rules, length_mapped) in omega (arith, sum_counts c.args.servers, counted-few c.args.servers))
 
 pub returns : goal.returns
-returns c = count-end c.loop-i.invariant c.loop-i-test.false
+returns c =
+    sum_by_from_yields_List one_of c.args.servers c.map.result _ c.sum.ensures.ran
+    (YieldsList-from_map _ one_of (YieldsList-from_slice c.args.servers cc) c.map.ensures.closure (λ x r q k. search rules))
+    ∙ sum_counts c.args.servers

@@ -1,26 +1,17 @@
-use mathlib.Core.Path.{sym, ◌∙◌}
-use Prim.Native.Nat.{◌-◌}
-use native.Mathlib.Omega.{arith}
-use borrow.Author.Rules.{rules}
+use Rattle.std.proofs.Common.{◌∙◌, ap, rules}
+use borrow.Author.Tests.{tests}
+use Rattle.std.specs.Option.{unwrap_or}
+use Rattle.std.proofs.lemmas.Iterator.{YieldsList-from_slice}
+use Rattle.std.proofs.lemmas.Iterator.Search.{position_from_yields_List}
 use Rattle.lists.proofs.Cases.{length_mapped}
-use Rattle.lists.proofs.FindLoop as search-loop
-use Rattle.server.specs.Server.{absent}
 use Rattle.group.specs.Table.{named, place_in}
+use Rattle.group.proofs.Chains.{position-index}
 use Rattle.group.proofs.place_in.Goals as goal
-
-pub loop-place-init : goal.loop-place-init
-loop-place-init c = search-loop.begin (search (rules, length_mapped))
-
-pub bounds-servers-place : goal.bounds-servers-place
-bounds-servers-place c = search (rules, length_mapped)
-
-pub returns-then-named : goal.returns-then-named
-unfolding place_in
-returns-then-named c = search-loop.hit absent c.loop-place.invariant (omega arith) (sym c.named.ensures ∙ c.if-named.true)
-
-pub loop-place-preserved : goal.loop-place-preserved
-loop-place-preserved c = search-loop.miss absent c.loop-place.invariant (omega arith) (sym c.named.ensures ∙ c.if-named.false)
 
 pub returns : goal.returns
 unfolding place_in
-returns c = search-loop.none c.loop-place.invariant (omega arith)
+returns c =
+    c.unwrap_or.ensures
+    ∙ ap (λ o. unwrap_or o 16)
+    (position_from_yields_List (named c.args.identity) _ _ c.position-found.result c.position-found.ensures.ran (YieldsList-from_slice c.args.servers cc) (λ x b q k. search (rules, tests)))
+    ∙ position-index (named c.args.identity) c.args.servers 16 (search (rules, length_mapped))

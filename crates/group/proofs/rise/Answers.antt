@@ -1,20 +1,10 @@
-use Prim.Native.Nat.{◌-◌}
-use borrow.Author.Rules.{rules}
-use Rattle.lists.proofs.Cases.{length_mapped}
-use Rattle.group.proofs.Tables.{climb_begin, climb_turn, climb_end}
+use Rattle.std.proofs.Common.{rules}
+use borrow.Author.Tests.{tests}
+use Rattle.std.proofs.lemmas.Fn.{always_returns_same}
+use Rattle.group.specs.Table.{follows}
+use Rattle.group.proofs.Tables.{rise-answer}
 use Rattle.group.proofs.rise.Goals as goal
 
-pub bounds-servers-0 : goal.bounds-servers-0
-bounds-servers-0 c = search (rules, length_mapped)
-
-pub loop-i-init : goal.loop-i-init
-loop-i-init c = climb_begin (search (rules, length_mapped))
-
-pub bounds-servers-i : goal.bounds-servers-i
-bounds-servers-i c = search (rules, length_mapped)
-
-pub loop-i-preserved : goal.loop-i-preserved
-loop-i-preserved c = climb_turn c.loop-i.invariant c.loop-i-test.true c.follows-rising.ensures
-
 pub returns : goal.returns
-returns c = climb_end c.loop-i.invariant c.loop-i-test.false
+returns c =
+    rise-answer c.args.servers _ (c.is_sorted_by.ensures.cases follows (always_returns_same _ _ _ (λ a r f k. search (rules, tests))))

@@ -1,10 +1,8 @@
-use Rattle.text.proofs.Writing.{not_short}
+use Rattle.text.proofs.Writing.{fits-is_ok}
 use Rattle.lines.proofs.put_number.Goals as goal
 
-pub returns-in-To : goal.returns-in-To
-returns-in-To c = rw c.in-To.is at c.write_number.ensures.writes
+pub unwrap-requires : goal.unwrap-requires
+unwrap-requires c = fits-is_ok c.requires c.write_number.result c.write_number.ensures.writes
 
-pub returns-in-Refused : goal.returns-in-Refused
-returns-in-Refused c =
-    not_short c.requires
-    (rw c.in-Refused.is at c.write_number.ensures.writes)
+pub returns : goal.returns
+returns c = rw c.unwrap.ensures at c.write_number.ensures.writes

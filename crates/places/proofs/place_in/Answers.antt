@@ -1,5 +1,4 @@
-use Prim.Native.Nat.{◌-◌}
-use mathlib.Core.Path.{◌∙◌, sym, ap}
+use mathlib.Core.Path.{◌≡◌, ◌∙◌, sym, ap}
 use native.Mathlib.Omega.{arith}
 use Rattle.lists.proofs.FindLoop as search-loop
 use Rattle.server.specs.Server.{absent}
@@ -19,4 +18,4 @@ loop-i-preserved c = search-loop.miss absent c.loop-i.invariant (omega arith) (a
 
 pub returns : goal.returns
 unfolding place_in
-returns c = search-loop.none c.loop-i.invariant (omega arith)
+returns c = let e : 16 ≡ c.loop-i.i = omega arith in e ∙ search-loop.none c.loop-i.invariant (omega arith)

@@ -1,5 +1,4 @@
 use mathlib.Core.Path.{refl}
-use Prim.Native.Nat.{◌-◌}
 use native.Mathlib.Omega.{arith}
 use Rattle.lists.proofs.Cases.{length_mapped}
 use Rattle.places.proofs.Words.{stored-begin, stored-turn, stored-end}
@@ -8,9 +7,6 @@ use Rattle.places.proofs.words_of.Goals as goal
 
 pub loop-i-init : goal.loop-i-init
 loop-i-init c = stored-begin refl (search (rules, length_mapped))
-
-pub bounds-servers-i : goal.bounds-servers-i
-bounds-servers-i c = search (rules, length_mapped)
 
 pub store-requires : goal.store-requires
 store-requires c = (c.loop-i.invariant.room, omega arith)

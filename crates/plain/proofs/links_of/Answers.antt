@@ -1,21 +1,8 @@
-use mathlib.Core.Path.{refl}
-use Prim.Native.Nat.{◌-◌}
 use borrow.Author.Rules.{rules}
 use Rattle.lists.proofs.Cases.{length_mapped}
-use Rattle.lists.proofs.EachLoop.{make_begin, make_turn, make_end}
+use Rattle.group.proofs.Chains.{made_map}
+use Rattle.plain.specs.Plain.{bit_of}
 use Rattle.plain.proofs.links_of.Goals as goal
 
-pub loop-i-init : goal.loop-i-init
-loop-i-init c = make_begin (search (rules, length_mapped)) (search (rules, length_mapped))
-
-pub bounds-whole-i : goal.bounds-whole-i
-bounds-whole-i c = search (rules, length_mapped)
-
-pub bounds-next-i : goal.bounds-next-i
-bounds-next-i c = search (rules, length_mapped)
-
-pub loop-i-preserved : goal.loop-i-preserved
-loop-i-preserved c = make_turn c.loop-i.invariant c.loop-i-test.true refl
-
 pub returns : goal.returns
-returns c = make_end c.loop-i.invariant c.loop-i-test.false
+returns c = made_map bit_of 0 c.args.whole (search (rules, length_mapped)) (λ i y q k. search rules) c.from_fn.ensures.items

@@ -1,20 +1,21 @@
-use native.Mathlib.Omega.{arith}
-use mathlib.Core.Path.{refl}
-use borrow.Author.Tests.{eq-eqb, ne_eqb}
+use mathlib.Core.Path.{◌≡◌, refl, sym, ◌∙◌}
+use Prim.Native.Nat.{ℕ}
+use native.Mathlib.Numerals.{add-one}
+use borrow.Author.Tests.{tests, eq-eqb, ne_eqb}
+use Rattle.std.proofs.Common.{rules, ◌≢◌}
+use Rattle.std.proofs.lemmas.Iterator.{YieldsList-from_slice, IsFirst-from_position, index_from_first}
 use Rattle.lists.specs.Lists.{up_to}
-use Rattle.lists.proofs.FindLoop as search-loop
+use Rattle.lists.proofs.Cases.{chosen, other}
 use Rattle.text.proofs.find.Goals as goal
-
-pub loop-i-init : goal.loop-i-init
-loop-i-init c = search-loop.begin refl
-
-pub returns-then-s-i : goal.returns-then-s-i
-unfolding up_to
-returns-then-s-i c = search-loop.hit 0 c.loop-i.invariant (omega arith) (eq-eqb _ _ c.if-s-i.true)
-
-pub loop-i-preserved : goal.loop-i-preserved
-loop-i-preserved c = search-loop.miss 0 c.loop-i.invariant (omega arith) (ne_eqb _ _ c.if-s-i.false)
 
 pub returns : goal.returns
 unfolding up_to
-returns c = search-loop.none c.loop-i.invariant (omega arith)
+returns c =
+    let b = c.args.b in
+    let s = c.args.s.now in
+    c.unwrap_or.ensures
+    ∙ sym (index_from_first (up_to b) (λ x. x ≡ b) (λ x. x ≢ b) refl
+    (λ x xs h. chosen _ (eq-eqb x b h))
+    (λ x xs h. other _ (ne_eqb x b h) ∙ sym (add-one _))
+    s c.position.result
+    (IsFirst-from_position _ _ c.position.result (λ x. x ≡ b) (λ x. x ≢ b) c.position.ensures.ran (YieldsList-from_slice s cc) (λ x q k. search (rules, tests)) (λ x q k. search (rules, tests))))

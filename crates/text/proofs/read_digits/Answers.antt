@@ -1,21 +1,21 @@
-use mathlib.Core.Path.{sym, ap, ◌∙◌}
 use native.Mathlib.Omega.{arith}
-use Rattle.text.specs.Number.{of_number}
+use Rattle.std.proofs.lemmas.Result.{err_from_is_err_and}
 use Rattle.text.proofs.Reading as reading
 use Rattle.text.proofs.read_digits.Goals as goal
 
-pub loop-i-init : goal.loop-i-init
-loop-i-init c = reading.begin
+pub loop-x-init : goal.loop-x-init
+loop-x-init c = reading.begin
 
-pub loop-i-preserved : goal.loop-i-preserved
-loop-i-preserved c =
-    reading.turn c.loop-i.invariant _ (omega arith)
-    (sym (ap of_number c.in-Is.is) ∙ c.read_digit.ensures)
+pub loop-x-preserved : goal.loop-x-preserved
+loop-x-preserved c =
+    reading.turn c.loop-x.invariant _ (omega arith)
+    c.in_ok-n.ensures
 
-pub returns-in-Refused : goal.returns-in-Refused
-returns-in-Refused c =
-    reading.stop c.loop-i.invariant _ (omega arith)
-    (sym (ap of_number c.in-Refused.is) ∙ c.read_digit.ensures)
+pub returns-in_err-n : goal.returns-in_err-n
+returns-in_err-n c =
+    let p = err_from_is_err_and c.from_residual.result c.from_residual.ensures.1 in
+    rw (p.1, p.2) (reading.stop c.loop-x.invariant _ (omega arith)
+    (c.in_err-n.ensures))
 
 pub returns : goal.returns
-returns c = reading.end c.loop-i.invariant (omega arith)
+returns c = reading.end c.loop-x.invariant (omega arith)

@@ -1,9 +1,8 @@
-use Rattle.std.proofs.Common.{◌-◌}
-use Rattle.vectors.proofs.Building.{Building}
+-- The loop's invariant: the head stands there, and as many bodies as turns were made.
+use Rattle.std.proofs.Common.{◌++◌, Ok}
+use Rattle.text.specs.Steps.{Pieces}
+use Rattle.vectors.specs.Days.{times}
 use Rattle.vectors.proofs.build.Given as goal
 
-abbrev pub invariant-loop-i : goal.invariant-loop-i
-invariant-loop-i l = Building l.head l.body l.times l.initial.written l.initial.day l.i l.written l.day
-
-abbrev pub decreases-loop-i : goal.decreases-loop-i
-decreases-loop-i l = l.times - l.i
+abbrev pub invariant-loop : goal.invariant-loop
+invariant-loop l = Pieces l.fn.day 0 (l.head ++ times l.counter l.body) (Ok l.at) l.day

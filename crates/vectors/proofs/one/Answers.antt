@@ -22,19 +22,19 @@ pub part-requires-3 : goal.part-requires-3
 part-requires-3 c = tail_in c.args.line c.requires
 
 pub slice_bounds-compare_sheet-end : goal.slice_bounds-compare_sheet-end
-slice_bounds-compare_sheet-end c = within c.build-built.ensures _ c.in-To.is
+slice_bounds-compare_sheet-end c = within c.build-built.ensures _ c.in-Ok.is
 
-pub slice_bounds-compare_sheet-end-in-To : goal.slice_bounds-compare_sheet-end-in-To
-slice_bounds-compare_sheet-end-in-To c = sym (length-take-le _ _ (within c.build-built.ensures _ c.in-To.is))
+pub slice_bounds-compare_sheet-end-in-Ok : goal.slice_bounds-compare_sheet-end-in-Ok
+slice_bounds-compare_sheet-end-in-Ok c = sym (length-take-le _ _ (within c.build-built.ensures _ c.in-Ok.is))
 
-pub returns-in-To : goal.returns-in-To
-returns-in-To c =
+pub returns-in-Ok : goal.returns-in-Ok
+returns-in-Ok c =
     let a = c.args in
     let v = built a.file.now a.line c.part.ensures c.part-2.ensures c.part-3.ensures c.build-built.ensures in
-    day-there a.file.now a.line v _ _ c.in-To.is c.part-in-To.ensures c.compare_sheet.ensures
+    day-there a.file.now a.line v _ _ c.in-Ok.is c.part-in-Ok.ensures c.compare_sheet.ensures
 
-pub returns-in-Refused : goal.returns-in-Refused
-returns-in-Refused c =
+pub returns-in-Err : goal.returns-in-Err
+returns-in-Err c =
     let a = c.args in
     let v = built a.file.now a.line c.part.ensures c.part-2.ensures c.part-3.ensures c.build-built.ensures in
-    no_day a.file.now a.line v _ _ c.in-Refused.is
+    no_day a.file.now a.line v _ _ c.in-Err.is

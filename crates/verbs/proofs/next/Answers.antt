@@ -10,12 +10,12 @@ bounds-servers-i c = search (rules, length_mapped)
 pub replaced-after-requires : goal.replaced-after-requires
 replaced-after-requires c = (omega arith, omega arith)
 
-pub returns-in-Accepted : goal.returns-in-Accepted
-returns-in-Accepted c =
+pub returns-in-Ok : goal.returns-in-Ok
+returns-in-Ok c =
     let a = c.args in
-    rw c.replaced-after.ensures ((c.decide-done.ensures a.state refl c.place_in-first.ensures c.second_in-second.ensures refl refl).allowed c.in-Accepted.is)
+    rw c.replaced-after.ensures ((c.decide-done.ensures a.state refl c.place_in-first.ensures c.second_in-second.ensures refl refl).allowed c.in-Ok.is)
 
-pub returns-in-Refused : goal.returns-in-Refused
-returns-in-Refused c =
+pub returns-in-Err : goal.returns-in-Err
+returns-in-Err c =
     let a = c.args in
-    (c.decide-done.ensures a.state refl c.place_in-first.ensures c.second_in-second.ensures refl refl).refused _ c.in-Refused.is
+    (c.decide-done.ensures a.state refl c.place_in-first.ensures c.second_in-second.ensures refl refl).refused _ c.in-Err.is

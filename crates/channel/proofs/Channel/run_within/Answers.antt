@@ -10,14 +10,14 @@ overflow_sub-result c =
     let a = c.args in
     within-later a.self.state a.target (gives_of a.self.state _ c.words_of-words.ensures.servers (λ (s : State). within_goes s a.target (length a.out.now)) c.run_within-ran.ensures.gives)
 
-pub returns-in-Accepted : goal.returns-in-Accepted
-returns-in-Accepted c =
+pub returns-in-Ok : goal.returns-in-Ok
+returns-in-Ok c =
     let a = c.args in
     let g = gives_of a.self.state _ c.words_of-words.ensures.servers (λ (s : State). within_goes s a.target (length a.out.now)) c.run_within-ran.ensures.gives in
     rw (c.moved-channel.ensures, c.servers_of-after.ensures) (answers-within _ g refl)
 
-pub returns-in-Refused : goal.returns-in-Refused
-returns-in-Refused c =
+pub returns-in-Err : goal.returns-in-Err
+returns-in-Err c =
     let a = c.args in
     let g = gives_of a.self.state _ c.words_of-words.ensures.servers (λ (s : State). within_goes s a.target (length a.out.now)) c.run_within-ran.ensures.gives in
-    stays a.self c.stays.ensures (gives_nothing g _ c.in-Refused.is)
+    stays a.self c.stays.ensures (gives_nothing g _ c.in-Err.is)

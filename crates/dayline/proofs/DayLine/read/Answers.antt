@@ -1,3 +1,4 @@
+use Rattle.std.proofs.lemmas.Result.{err_from_is_err_and}
 use mathlib.Core.Path.{◌≡◌, sym, ap, ◌∙◌}
 use mathlib.Core.Bool.{true, false}
 use mathlib.Core.List.{List, [], ◌∷◌}
@@ -9,7 +10,7 @@ use lib.ListN.{take}
 use lib.Seq.{length-take-le}
 use Rattle.refusal.specs.Answer.{Answer, accepted, refused}
 use Rattle.refusal.proofs.Answers.{number-some}
-use Rattle.text.specs.Line.{of_line, read_line}
+use Rattle.text.specs.Line.{read_line}
 use Rattle.text.proofs.Lines.{line-body, line-whole, line_refused}
 use Rattle.day.specs.Read.{wrong, body_read, line_read}
 use Rattle.dayline.proofs.DayLine.read.Goals as goal
@@ -31,13 +32,13 @@ no_line s {k} h e =
 pub slice_bounds-read_body-end : goal.slice_bounds-read_body-end
 slice_bounds-read_body-end c =
     let s = c.args.line.now in
-    let e = sym (ap of_line c.in-Is.is) ∙ c.read.ensures in
+    let e = c.in_ok-whole.ensures in
     sym (length-take-le _ s (omega (arith, line-body s e, line-whole s e)))
 
-pub returns-in-Is : goal.returns-in-Is
-returns-in-Is c = c.read_body.ensures ∙ body-read _ (sym (ap of_line c.in-Is.is) ∙ c.read.ensures)
+pub returns : goal.returns
+returns c = c.read_body.ensures ∙ body-read _ c.in_ok-whole.ensures
 
-pub returns-in-Refused : goal.returns-in-Refused
-returns-in-Refused c =
-    no_line _ (λ z. omega (arith, number-some c.in-Refused.k))
-    (sym (ap of_line c.in-Refused.is) ∙ c.read.ensures)
+pub returns-in_err-whole : goal.returns-in_err-whole
+returns-in_err-whole c =
+    let p = err_from_is_err_and c.from_residual.result c.from_residual.ensures.1 in
+    rw (p.1, p.2) (no_line _ (λ z. omega (arith, number-some c.in_err-whole.field-0.0)) c.in_err-whole.ensures)

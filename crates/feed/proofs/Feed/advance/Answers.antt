@@ -9,11 +9,11 @@ use Rattle.feed.proofs.Leaving.{not-refused, made-entries, passes_same, passes_o
 use Rattle.feed.proofs.Making.{makes-written, makes-refused}
 use Rattle.feed.proofs.Feed.advance.Goals as goal
 
-pub returns-in-Accepted : goal.returns-in-Accepted
-returns-in-Accepted c l =
+pub returns-in-Ok : goal.returns-in-Ok
+returns-in-Ok c l =
     let a = c.args in
     let f = fed_of a.self l a.words.now a.whole.now in
-    let q = within-done (channel_of a.self a.words.now a.whole.now) a.time c.requires.0 c.run_within-ran.ensures.gives c.in-Accepted.is in
+    let q = within-done (channel_of a.self a.words.now a.whole.now) a.time c.requires.0 c.run_within-ran.ensures.gives c.in-Ok.is in
     let g : State → Fed = λ s. record { over = f.over; number = f.number; line = f.line; day = on atEntries s } in
     record {
       makes = makes-written q.0 (ap g q.1);
@@ -21,11 +21,11 @@ returns-in-Accepted c l =
       same = λ i z. not-refused z;
     }
 
-pub returns-in-Refused : goal.returns-in-Refused
-returns-in-Refused c l =
+pub returns-in-Err : goal.returns-in-Err
+returns-in-Err c l =
     let a = c.args in
     let ran = c.run_within-ran.ensures in
-    let v = c.in-Refused.is in
+    let v = c.in-Err.is in
     rw (ran.same _ v)
     (record {
       makes = makes-refused (within-not (channel_of a.self a.words.now a.whole.now) a.time c.requires.0 ran.gives v) refl;

@@ -17,25 +17,25 @@ pub enter-requires : goal.enter-requires
 enter-requires c =
     let a = c.args in
     let k = a.whole.now in
-    (c.requires, open_made a.self.stage (channel_of a.self a.words.now k) (sym (c.open-verdict.ensures [] k) ∙ ap of_verdict c.in-Accepted.is))
+    (c.requires, open_made a.self.stage (channel_of a.self a.words.now k) (sym (c.open-verdict.ensures [] k) ∙ ap of_verdict c.in-Ok.is))
 
-pub returns-in-Accepted : goal.returns-in-Accepted
-returns-in-Accepted c l =
+pub returns-in-Ok : goal.returns-in-Ok
+returns-in-Ok c l =
     let a = c.args in
     let w = a.words.now in
     let k = a.whole.now in
     let f = fed_of a.self l w k in
     let s = channel_of a.self w k in
     let room = length a.out.now in
-    let z = sym (c.open-verdict.ensures l k) ∙ ap of_verdict c.in-Accepted.is in
+    let z = sym (c.open-verdict.ensures l k) ∙ ap of_verdict c.in-Ok.is in
     does_as (placed_on f room (entry a.time a.verb a.a a.b) (λ (s : State). entry_effect s a.time a.verb a.a a.b) refl z (open_channel a.self.stage s z)) (c.enter.ensures l)
 
-pub returns-in-Refused : goal.returns-in-Refused
-returns-in-Refused c l =
+pub returns-in-Err : goal.returns-in-Err
+returns-in-Err c l =
     let a = c.args in
     let w = a.words.now in
     let k = a.whole.now in
     let f = fed_of a.self l w k in
     let s = channel_of a.self w k in
     let room = length a.out.now in
-    does_as (placed_not f room (entry a.time a.verb a.a a.b) (λ (s : State). entry_effect s a.time a.verb a.a a.b) refl (sym (c.open-verdict.ensures l k) ∙ ap of_verdict c.in-Refused.is) (λ z. omega (arith, number-some c.in-Refused.k))) (c.stop.ensures w k l)
+    does_as (placed_not f room (entry a.time a.verb a.a a.b) (λ (s : State). entry_effect s a.time a.verb a.a a.b) refl (sym (c.open-verdict.ensures l k) ∙ ap of_verdict c.in-Err.is) (λ z. omega (arith, number-some c.in-Err.k))) (c.stop.ensures w k l)

@@ -14,15 +14,15 @@ use Rattle.feed.proofs.Feed.first_line.Goals as goal
 pub listed-requires : goal.listed-requires
 listed-requires c = (c.requires.0, ap (λ (t : Table). is_table t.servers) c.empty-table.ensures ∙ table_empty)
 
-pub returns-in-Is : goal.returns-in-Is
-returns-in-Is c l =
+pub returns-in-Ok : goal.returns-in-Ok
+returns-in-Ok c l =
     let a = c.args in
     let q = c.requires in
     let p = c.of in
     does_as
     (ap₂ (λ (t : Table) (n : ℕ). going (fed_of a.self l a.words.now a.whole.now) [] (on atServers (fresh t n))) c.empty-table.ensures
-    (period-is q.1 q.2 p.result p.ensures c.in-Is.is))
+    (period-is q.1 q.2 p.result p.ensures c.in-Ok.is))
     (c.listed.ensures a.out.now l)
 
-pub returns-in-Refused : goal.returns-in-Refused
-returns-in-Refused c l = let q = c.requires in let p = c.of in absurd (period-taken q.1 q.2 p.result p.ensures c.in-Refused.is)
+pub returns-in-Err : goal.returns-in-Err
+returns-in-Err c l = let q = c.requires in let p = c.of in absurd (period-taken q.1 q.2 p.result p.ensures c.in-Err.is)

@@ -1,10 +1,11 @@
+use Rattle.std.specs.Prelude.{ℕ, Result}
 use mathlib.Core.Path.{sym, ap}
-use Rattle.text.specs.declared.Written.{Written}
 use Rattle.feed.specs.Steps.{if_written}
 use Rattle.feed.proofs.Feed.put.Goals as goal
+use Rattle.refusal.specs.declared.Refusal.{Refusal}
 
-pub returns-in-To : goal.returns-in-To
-returns-in-To c = let a = c.args in record { written = sym c.in-To.is; feed = ap (λ (p : Written). if_written p a.after a.self) (sym c.in-To.is) }
+pub returns-in-Ok : goal.returns-in-Ok
+returns-in-Ok c = let a = c.args in record { written = sym c.in-Ok.is; feed = ap (λ (p : Result ℕ Refusal). if_written p a.after a.self) (sym c.in-Ok.is) }
 
-pub returns-in-Refused : goal.returns-in-Refused
-returns-in-Refused c = let a = c.args in record { written = sym c.in-Refused.is; feed = ap (λ (p : Written). if_written p a.after a.self) (sym c.in-Refused.is) }
+pub returns-in-Err : goal.returns-in-Err
+returns-in-Err c = let a = c.args in record { written = sym c.in-Err.is; feed = ap (λ (p : Result ℕ Refusal). if_written p a.after a.self) (sym c.in-Err.is) }

@@ -31,20 +31,20 @@ overflow_add-result c =
     let w = a.words.now in
     let k = a.whole.now in
     let f = fed_of a.self a.line.now w k in
-    omega (arith, c.requires.0, c.well_formed.1.1.1.1.1.1.0.0, within f a.n a.out.now (sym (c.waits.ensures w k) ∙ c.if-not-waits.false) (c.requires.2 (sym (c.waits.ensures w k) ∙ c.if-not-waits.false)) (c.go-more.ensures a.line.now).makes c.in-To.is)
+    omega (arith, c.requires.0, c.well_formed.1.1.1.1.1.1.0.0, within f a.n a.out.now (sym (c.waits.ensures w k) ∙ c.if-not-waits.false) (c.requires.2 (sym (c.waits.ensures w k) ∙ c.if-not-waits.false)) (c.go-more.ensures a.line.now).makes c.in-Ok.is)
 
-pub returns-in-To : goal.returns-in-To
-returns-in-To c =
+pub returns-in-Ok : goal.returns-in-Ok
+returns-in-Ok c =
     let a = c.args in
     let w = a.words.now in
     let k = a.whole.now in
     let f = fed_of a.self a.line.now w k in
-    record { follows = follows-made f a.n a.out.now (sym (c.waits.ensures w k) ∙ c.if-not-waits.false) (c.requires.2 (sym (c.waits.ensures w k) ∙ c.if-not-waits.false)) (c.go-more.ensures a.line.now).makes refl c.in-To.is; passes = (c.go-more.ensures a.line.now).passes; accepted = λ i e. not-refused e }
+    record { follows = follows-made f a.n a.out.now (sym (c.waits.ensures w k) ∙ c.if-not-waits.false) (c.requires.2 (sym (c.waits.ensures w k) ∙ c.if-not-waits.false)) (c.go-more.ensures a.line.now).makes refl c.in-Ok.is; passes = (c.go-more.ensures a.line.now).passes; accepted = λ i e. not-refused e }
 
-pub returns-in-Refused : goal.returns-in-Refused
-returns-in-Refused c =
+pub returns-in-Err : goal.returns-in-Err
+returns-in-Err c =
     let a = c.args in
     let w = a.words.now in
     let k = a.whole.now in
     let f = fed_of a.self a.line.now w k in
-    record { follows = follows-not f a.n a.out.now (sym (c.waits.ensures w k) ∙ c.if-not-waits.false) (c.requires.2 (sym (c.waits.ensures w k) ∙ c.if-not-waits.false)) (c.go-more.ensures a.line.now).makes refl c.in-Refused.is; passes = (c.go-more.ensures a.line.now).passes; accepted = λ i e. not-refused e }
+    record { follows = follows-not f a.n a.out.now (sym (c.waits.ensures w k) ∙ c.if-not-waits.false) (c.requires.2 (sym (c.waits.ensures w k) ∙ c.if-not-waits.false)) (c.go-more.ensures a.line.now).makes refl c.in-Err.is; passes = (c.go-more.ensures a.line.now).passes; accepted = λ i e. not-refused e }

@@ -28,11 +28,11 @@ second-requires c =
     let a = c.args in
     let l = a.line.now in
     let q = (c.go-first.ensures l).makes in
-    let r = made q c.in-To.is in
-    (omega (arith, r.end, r.fits, c.go-first.auto.out), subst Sized (sym c.read-read.ensures) (read_sized _), λ e. still q c.in-To.is c.read-read.ensures e)
+    let r = made q c.in-Ok.is in
+    (omega (arith, r.end, r.fits, c.go-first.auto.out), subst Sized (sym c.read-read.ensures) (read_sized _), λ e. still q c.in-Ok.is c.read-read.ensures e)
 
-pub returns-in-To : goal.returns-in-To
-returns-in-To c =
+pub returns-in-Ok : goal.returns-in-Ok
+returns-in-Ok c =
     let a = c.args in
     let l = a.line.now in
     let w = a.words.now in
@@ -41,10 +41,10 @@ returns-in-To c =
     let room = length a.out.now in
     let q = c.go-first.ensures l in
     let v = c.second.ensures in
-    makes_in (record { makes = pairs_made (makes_as (step_is f room (sym (c.waits.ensures w k) ∙ c.if-not-waits.false) c.read-read.ensures) q.makes) c.in-To.is v.follows; passes = passes_then q.passes v.passes; same = λ i e. absurd (v.accepted i e) })
+    makes_in (record { makes = pairs_made (makes_as (step_is f room (sym (c.waits.ensures w k) ∙ c.if-not-waits.false) c.read-read.ensures) q.makes) c.in-Ok.is v.follows; passes = passes_then q.passes v.passes; same = λ i e. absurd (v.accepted i e) })
 
-pub returns-in-Refused : goal.returns-in-Refused
-returns-in-Refused c =
+pub returns-in-Err : goal.returns-in-Err
+returns-in-Err c =
     let a = c.args in
     let l = a.line.now in
     let w = a.words.now in
@@ -52,4 +52,4 @@ returns-in-Refused c =
     let f = fed_of a.self l w k in
     let room = length a.out.now in
     let q = c.go-first.ensures l in
-    makes_in (record { makes = pairs-refused (makes_as (step_is f room (sym (c.waits.ensures w k) ∙ c.if-not-waits.false) c.read-read.ensures) q.makes) c.in-Refused.is; passes = q.passes; same = λ i e. q.same _ c.in-Refused.is })
+    makes_in (record { makes = pairs-refused (makes_as (step_is f room (sym (c.waits.ensures w k) ∙ c.if-not-waits.false) c.read-read.ensures) q.makes) c.in-Err.is; passes = q.passes; same = λ i e. q.same _ c.in-Err.is })

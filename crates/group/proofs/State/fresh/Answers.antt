@@ -6,17 +6,17 @@ use Rattle.group.proofs.State.fresh.Goals as goal
 pub open_with-requires : goal.open_with-requires
 open_with-requires c =
     let a = c.args in
-    (period-is a.period (sym (ap of_period c.in-Is.is) ∙ c.of.ensures)).1
+    (period-is a.period (sym (ap of_period c.in-Ok.is) ∙ c.of.ensures)).1
 
-pub returns-in-Is : goal.returns-in-Is
-returns-in-Is c =
+pub returns-in-Ok : goal.returns-in-Ok
+returns-in-Ok c =
     let a = c.args in
-    let same = (period-is a.period (sym (ap of_period c.in-Is.is) ∙ c.of.ensures)).0 in
+    let same = (period-is a.period (sym (ap of_period c.in-Ok.is) ∙ c.of.ensures)).0 in
     rw same at c.open_with.ensures
 
-pub returns-in-Refused : goal.returns-in-Refused
-returns-in-Refused c =
+pub returns-in-Err : goal.returns-in-Err
+returns-in-Err c =
     let a = c.args in
     opens_not a.table a.period _
-    (badly a.table a.period (sym (ap of_period c.in-Refused.is) ∙ c.of.ensures))
+    (badly a.table a.period (sym (ap of_period c.in-Err.is) ∙ c.of.ensures))
     c.unopened.ensures

@@ -1,3 +1,4 @@
+use Rattle.std.proofs.lemmas.Result.{err_from_is_err_and}
 use mathlib.Core.Path.{◌≡◌, sym, ap, ◌∙◌}
 use mathlib.Core.List.{List, [], ◌∷◌}
 use Prim.Native.Nat.{ℕ}
@@ -8,7 +9,7 @@ use lib.Seq.{length-take-le}
 use Rattle.lists.proofs.Cases.{chosen, other}
 use Rattle.refusal.specs.Answer.{Answer, accepted, refused}
 use Rattle.refusal.proofs.Answers.{number-some}
-use Rattle.text.specs.Line.{of_line, read_line}
+use Rattle.text.specs.Line.{read_line}
 use Rattle.text.proofs.Lines.{line-body, line-whole, line_refused}
 use Rattle.heartbeat.specs.Heartbeat.{read_body, read_heartbeat}
 use Rattle.heartbeat.proofs.Heartbeat.read.Goals as goal
@@ -22,17 +23,19 @@ body-read s e =
 pub slice_bounds-read_body-end : goal.slice_bounds-read_body-end
 slice_bounds-read_body-end c =
     let s = c.args.line.now in
-    let e = sym (ap of_line c.in-Is.is) ∙ c.read.ensures in
+    let e = c.in_ok-whole.ensures in
     sym (length-take-le _ s (omega (arith, line-body s e, line-whole s e)))
 
-pub returns-in-Is : goal.returns-in-Is
-returns-in-Is c =
-    c.read_body.ensures ∙ body-read _ (sym (ap of_line c.in-Is.is) ∙ c.read.ensures)
+pub returns : goal.returns
+returns c =
+    c.read_body.ensures ∙ body-read _ c.in_ok-whole.ensures
 
-pub returns-in-Refused : goal.returns-in-Refused
+pub returns-in_err-whole : goal.returns-in_err-whole
 unfolding read_heartbeat
-returns-in-Refused c =
+returns-in_err-whole c =
     let s = c.args.line.now in
-    let e = sym (ap of_line c.in-Refused.is) ∙ c.read.ensures in
-    ap refused (sym (line_refused s e))
-    ∙ sym (other _ (ne_eqb (read_line s).number 0 (λ z. omega (arith, ap (λ (a : Answer). a.number) e, number-some c.in-Refused.k))))
+    let e = c.in_err-whole.ensures in
+    let p = err_from_is_err_and c.from_residual.result c.from_residual.ensures.1 in
+    rw (p.1, p.2)
+    (ap refused (sym (line_refused s e))
+    ∙ sym (other _ (ne_eqb (read_line s).number 0 (λ z. omega (arith, ap (λ (a : Answer). a.number) e, number-some c.in_err-whole.field-0.0)))))

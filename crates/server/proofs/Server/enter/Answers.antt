@@ -3,14 +3,14 @@ use Rattle.roles.specs.Verbs.{of_allowed}
 use Rattle.server.proofs.Acting.{refused_with, allowed}
 use Rattle.server.proofs.Server.enter.Goals as goal
 
-pub returns-in-To : goal.returns-in-To
-returns-in-To c =
+pub returns-in-Ok : goal.returns-in-Ok
+returns-in-Ok c =
     allowed _ _ _ _ _ _
-    (sym (ap of_allowed c.in-To.is) ∙ c.by_table.ensures)
+    (sym (ap of_allowed c.in-Ok.is) ∙ c.by_table.ensures)
     c.verb_event-event.ensures
     c.after.ensures
 
-pub returns-in-Refused : goal.returns-in-Refused
-returns-in-Refused c =
+pub returns-in-Err : goal.returns-in-Err
+returns-in-Err c =
     rw c.refused.ensures
-    (refused_with _ _ _ _ _ _ (sym (ap of_allowed c.in-Refused.is) ∙ c.by_table.ensures))
+    (refused_with _ _ _ _ _ _ (sym (ap of_allowed c.in-Err.is) ∙ c.by_table.ensures))
