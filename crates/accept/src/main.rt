@@ -4,10 +4,10 @@
 // What is found is the judge's; this program only reads, calls it and prints. The day is read where
 // the judge asks for it and the sheet otherwise, both no further than it takes to decide. A file
 // that cannot be opened, and a folder, count as empty. A proved loop has to end, and nothing says
-// that an input does, so the loop counts its turns down from a number that no run uses up.
+// that an input does, so the loop has a number of turns that no run uses up.
 #![tactic(auto)]
 
-ghost use Rattle.std.specs.Prelude.{◌≡◌, ◌+◌, ◌≤◌, length};
+ghost use Rattle.std.specs.Prelude.{◌≡◌, ◌+◌, ◌≤◌, Ok};
 ghost use Rattle.accept.specs.Steps.{Holds};
 
 use departure::Departure;
@@ -15,78 +15,73 @@ use feed::Feed;
 use group::{Links, Table};
 use judge::Judge;
 use places::Packed;
+use std::fmt::{self, Display, Formatter};
 use std::fs::File;
 use std::io::{Error, ErrorKind, Read};
 use std::process::ExitCode;
 use std::rt::Files;
 
+// Why there is no answer.
+#[derive(Drop)]
+enum Trouble {
+    Day(Error),
+    Sheet(Error),
+    Answer(Error),
+    Turns,
+}
+
+impl Display for Trouble {
+    fn fmt<W: fmt::Write>(&self, f: &mut Formatter<W>) -> fmt::Result {
+        match self {
+            Trouble::Day(why) => {
+                write!(
+                    f,
+                    "the day cannot be read (check the file, run again): {why}"
+                )
+            }
+            Trouble::Sheet(why) => {
+                write!(
+                    f,
+                    "the sheet cannot be read (check the file, run again): {why}"
+                )
+            }
+            Trouble::Answer(why) => write!(f, "the answer cannot be written: {why}"),
+            Trouble::Turns => f.write_str("more turns than can be counted"),
+        }
+    }
+}
+
 // An input, beside its file and its buffer: what was read of it and not taken, from a place of the
-// buffer to another; whether it has ended; and whether it cannot be read.
+// buffer to another; and whether it has ended.
 #[derive(Clone, Copy)]
 struct Source {
     from: usize,
     to: usize,
     ended: bool,
-    failed: bool,
 }
 
 impl Source {
-    // Where no file could be opened, it has ended.
-    fn open(file: &Option<impl Read>) -> Source
-        ensures { (result.from ≡ 0) × (result.to ≡ 0) }
+    // So many bytes were read, and none is taken.
+    fn of(to: usize, ended: bool) -> Source
+        ensures { (result.from ≡ 0) × (result.to ≡ to) }
     {
-        Source {
-            from: 0,
-            to: 0,
-            ended: file.is_none(),
-            failed: false,
-        }
+        Source { from: 0, to, ended }
     }
 
-    // A read of n bytes; none is the end.
-    fn with_read(self, n: usize) -> Source
-        ensures { (result.from ≡ 0) × (result.to ≡ n) }
+    // A read of no byte is the end. One that a signal cut short is made again, and a folder has
+    // ended.
+    fn read(file: &mut Option<impl Read>, buffer: &mut [u8]) -> Result<Source, Error>
+        ensures { (x : Source) → result ≡ Ok x → Holds buffer.new x }
     {
-        Source {
-            from: 0,
-            to: n,
-            ended: n == 0,
-            failed: false,
-        }
-    }
-
-    // A read that failed. One that a signal cut short is made again, and a folder has ended.
-    fn with_error(self, rt: &impl Eprint, error: &Error, what: &str) -> Source
-        ensures { (result.from ≡ 0) × (result.to ≡ 0) }
-    {
-        let kind = error.kind();
-        let ended = kind == ErrorKind::IsADirectory;
-        let failed = !(ended | (kind == ErrorKind::Interrupted));
-        if failed {
-            fail(rt, what, error);
-        }
-        Source {
-            from: 0,
-            to: 0,
-            ended,
-            failed,
-        }
-    }
-
-    fn read(
-        self,
-        rt: &impl Eprint,
-        file: &mut Option<impl Read>,
-        buffer: &mut [u8],
-        what: &str,
-    ) -> Source
-        ensures { Holds buffer.new result }
-    {
-        match file {
-            None => self.with_read(0),
-            Some(file) => match file.read(buffer) {
-                Ok(n) => self.with_read(n),
-                Err(error) => self.with_error(rt, &error, what),
+        let Some(file) = file else {
+            return Ok(Source::of(0, true));
+        };
+        match file.read(buffer) {
+            Ok(n) => Ok(Source::of(n, n == 0)),
+            Err(why) => match why.kind() {
+                ErrorKind::Interrupted => Ok(Source::of(0, false)),
+                ErrorKind::IsADirectory => Ok(Source::of(0, true)),
+                _ => Err(why),
             },
         }
     }
@@ -94,19 +89,17 @@ impl Source {
     // Reads once where more is wanted, all was taken and the input has not ended.
     fn filled(
         self,
-        rt: &impl Eprint,
         wanted: bool,
         file: &mut Option<impl Read>,
         buffer: &mut [u8],
-        what: &str,
-    ) -> Source
+    ) -> Result<Source, Error>
         requires { Holds buffer.old self }
-        ensures { Holds buffer.new result }
+        ensures { (x : Source) → result ≡ Ok x → Holds buffer.new x }
     {
         if !wanted | self.ended | (self.from < self.to) {
-            return self;
+            return Ok(self);
         }
-        self.read(rt, file, buffer, what)
+        Source::read(file, buffer)
     }
 
     // n bytes more are taken.
@@ -116,11 +109,18 @@ impl Source {
     {
         Source {
             from: self.from + n,
-            to: self.to,
-            ended: self.ended,
-            failed: self.failed,
+            ..self
         }
     }
+}
+
+// What is lent to the judge.
+#[derive(Drop)]
+struct Lent {
+    line: [u8; Feed::LINE],
+    words: Packed,
+    whole: Links,
+    due: [u8; Judge::DUE],
 }
 
 // Where the judge and both inputs stand.
@@ -132,158 +132,126 @@ struct Run {
 }
 
 impl Run {
-    // Whether it is not decided, and can be.
-    fn goes(self) -> bool {
-        let judge = self.judge;
-        judge.is_open() & !(self.day.failed | self.sheet.failed)
-    }
-
     // Gives the judge what there is of the day, and reads on where it asks for more: lines that
     // have come may print much, and need no byte for it.
     fn give_day(
         self,
-        rt: &impl Eprint,
-        line: &mut [u8; Feed::LINE],
-        words: &mut Packed,
-        whole: &mut Links,
-        due: &mut [u8; Judge::DUE],
+        lent: &mut Lent,
         file: &mut Option<impl Read>,
         buffer: &mut [u8],
-    ) -> Run
+    ) -> Result<Run, Trouble>
         requires { Holds buffer.old self.day }
-        ensures { Holds buffer.new result.day × (result.sheet ≡ self.sheet) }
+        ensures { (r : Run) → result ≡ Ok r → Holds buffer.new r.day × (r.sheet ≡ self.sheet) }
     {
         let source = self.day;
-        let from = source.from;
-        let to = source.to;
-        let judge = self.judge;
-        let given = judge.take_day(line, words, whole, due, &buffer[from..to], source.ended);
-        let next = given.judge;
-        let rest = source.without(given.used);
-        let day = rest.filled(
-            rt,
-            next.asks(due),
-            file,
-            buffer,
-            "accept: the day cannot be read (check the file, run again)",
+        let given = self.judge.take_day(
+            &mut lent.line,
+            &mut lent.words,
+            &mut lent.whole,
+            &mut lent.due,
+            &buffer[source.from..source.to],
+            source.ended,
         );
-        let sheet = self.sheet;
-        Run {
-            judge: next,
-            day,
-            sheet,
-        }
+        let judge = given.judge;
+        let rest = source.without(given.used);
+        let wanted = judge.asks(&lent.due);
+        let day = rest.filled(wanted, file, buffer).map_err(Trouble::Day)?;
+        Ok(Run { judge, day, ..self })
     }
 
     // Gives the judge what there is of the sheet.
     fn give_sheet(
         self,
-        rt: &impl Eprint,
         due: &[u8; Judge::DUE],
         file: &mut Option<impl Read>,
         buffer: &mut [u8],
-    ) -> Run
+    ) -> Result<Run, Trouble>
         requires { Holds buffer.old self.sheet }
-        ensures { Holds buffer.new result.sheet × (result.day ≡ self.day) }
+        ensures { (r : Run) → result ≡ Ok r → Holds buffer.new r.sheet × (r.day ≡ self.day) }
     {
         let source = self.sheet;
-        let sheet = source.filled(
-            rt,
-            true,
-            file,
-            buffer,
-            "accept: the sheet cannot be read (check the file, run again)",
-        );
-        let from = sheet.from;
-        let to = sheet.to;
-        let judge = self.judge;
-        let given = judge.take_sheet(due, &buffer[from..to], sheet.ended);
-        let next = given.judge;
-        let rest = sheet.without(given.used);
-        let day = self.day;
-        Run {
-            judge: next,
-            day,
-            sheet: rest,
-        }
+        let sheet = source.filled(true, file, buffer).map_err(Trouble::Sheet)?;
+        let given = self
+            .judge
+            .take_sheet(due, &buffer[sheet.from..sheet.to], sheet.ended);
+        Ok(Run {
+            judge: given.judge,
+            sheet: sheet.without(given.used),
+            ..self
+        })
     }
 
     // The day where the judge asks for it, else the sheet.
     fn turn(
         self,
-        rt: &impl Eprint,
-        line: &mut [u8; Feed::LINE],
-        words: &mut Packed,
-        whole: &mut Links,
-        due: &mut [u8; Judge::DUE],
+        lent: &mut Lent,
         day_file: &mut Option<impl Read>,
         sheet_file: &mut Option<impl Read>,
         day: &mut [u8],
         sheet: &mut [u8],
-    ) -> Run
+    ) -> Result<Run, Trouble>
         requires { Holds day.old self.day × Holds sheet.old self.sheet }
-        ensures { Holds day.new result.day × Holds sheet.new result.sheet }
+        ensures { (r : Run) → result ≡ Ok r → Holds day.new r.day × Holds sheet.new r.sheet }
     {
-        let judge = self.judge;
-        if judge.asks(due) {
-            self.give_day(rt, line, words, whole, due, day_file, day)
+        if self.judge.asks(&lent.due) {
+            self.give_day(lent, day_file, day)
         } else {
-            self.give_sheet(rt, due, sheet_file, sheet)
+            self.give_sheet(&lent.due, sheet_file, sheet)
         }
     }
 
-    // Turns until it is decided, or cannot be.
+    // Turns until it is decided.
     fn finish(
         self,
-        rt: &impl Eprint,
-        line: &mut [u8; Feed::LINE],
-        words: &mut Packed,
-        whole: &mut Links,
-        due: &mut [u8; Judge::DUE],
+        lent: &mut Lent,
         day_file: &mut Option<impl Read>,
         sheet_file: &mut Option<impl Read>,
         day: &mut [u8],
         sheet: &mut [u8],
-    ) -> Option<Departure>
+    ) -> Result<Departure, Trouble>
         requires { Holds day.old self.day × Holds sheet.old self.sheet }
     {
         let mut now = self;
-        let mut turns = u64::MAX;
-        while (turns > 0) & now.goes() {
-            let next = now.turn(
-                rt, line, words, whole, due, day_file, sheet_file, day, sheet,
-            );
-            now = next;
-            turns -= 1;
+        for _ in 0..u64::MAX {
+            if let Some(departure) = now.judge.judgement() {
+                return Ok(departure);
+            }
+            now = now.turn(lent, day_file, sheet_file, day, sheet)?;
         }
-        lasts(rt, turns);
-        let judge = now.judge;
-        judge.judgement()
+        Err(Trouble::Turns)
     }
 }
 
-// Room for what one read brings.
-fn room() -> [u8; 65536]
-    ensures { 65536 ≡ length result }
-{
-    [0; 65536]
+// The file of that name, if it can be opened.
+fn opened<R: Files>(rt: &R, path: &str) -> Option<R::File> {
+    File::open(rt, path).ok()
 }
 
-// Says on standard error what went wrong. Where that cannot be said either, the status is left.
-fn say(rt: &impl Eprint, what: &str) {
-    let _ = eprintln!(rt; "{what}");
-}
-
-// Says what failed, and why.
-fn fail(rt: &impl Eprint, what: &str, why: &Error) {
-    let _ = eprintln!(rt; "{what}: {why}");
-}
-
-// Says so where no turns are left.
-fn lasts(rt: &impl Eprint, turns: u64) {
-    if turns == 0 {
-        say(rt, "accept: more turns than can be counted");
-    }
+// Whether the sheet is the day's, or where it departs.
+fn found(rt: &impl Files) -> Result<Departure, Trouble> {
+    let mut lent = Lent {
+        line: [0; Feed::LINE],
+        words: [0; places::PACKED],
+        whole: [true; Table::LINKS],
+        due: [0; Judge::DUE],
+    };
+    let mut day = [0; 65536];
+    let mut sheet = [0; 65536];
+    let judge = Judge::begin(&mut lent.due);
+    let mut day_file = opened(rt, "day");
+    let mut sheet_file = opened(rt, "sheet");
+    let run = Run {
+        judge,
+        day: Source::of(0, day_file.is_none()),
+        sheet: Source::of(0, sheet_file.is_none()),
+    };
+    run.finish(
+        &mut lent,
+        &mut day_file,
+        &mut sheet_file,
+        &mut day,
+        &mut sheet,
+    )
 }
 
 // The answer, with a line feed.
@@ -294,60 +262,20 @@ fn print(rt: &impl Print, departure: Departure) -> Result<(), Error> {
     }
 }
 
-// Prints the answer, or says that it cannot; whether it was written.
-fn answer(rt: &(impl Print + Eprint), departure: Departure) -> bool {
-    match print(rt, departure) {
-        Ok(()) => true,
-        Err(why) => {
-            fail(rt, "accept: the answer cannot be written", &why);
-            false
-        }
-    }
-}
-
-// Nothing is printed where nothing was decided: the reason was said. Whether an answer was written.
-fn tell(rt: &(impl Print + Eprint), judgement: Option<Departure>) -> bool {
-    match judgement {
-        None => false,
-        Some(departure) => answer(rt, departure),
-    }
-}
-
-// The file of that name, if it can be opened.
-fn opened<R: Files>(rt: &R, path: &str) -> Option<R::File> {
-    File::open(rt, path).ok()
+// Prints what was found.
+fn tell(rt: &(impl Files + Print)) -> Result<(), Trouble> {
+    let departure = found(rt)?;
+    print(rt, departure).map_err(Trouble::Answer)
 }
 
 // The status is 0 where an answer was printed, else 1, and then what went wrong was said.
 fn main(rt: HostRuntime) -> ExitCode {
-    let mut line = [0; Feed::LINE];
-    let mut words = [0; places::PACKED];
-    let mut whole = [true; Table::LINKS];
-    let mut due = [0; Judge::DUE];
-    let mut day = room();
-    let mut sheet = room();
-    let judge = Judge::begin(&mut due);
-    let mut day_file = opened(&rt, "day");
-    let mut sheet_file = opened(&rt, "sheet");
-    let run = Run {
-        judge,
-        day: Source::open(&day_file),
-        sheet: Source::open(&sheet_file),
-    };
-    let judgement = run.finish(
-        &rt,
-        &mut line,
-        &mut words,
-        &mut whole,
-        &mut due,
-        &mut day_file,
-        &mut sheet_file,
-        &mut day,
-        &mut sheet,
-    );
-    if tell(&rt, judgement) {
-        ExitCode::SUCCESS
-    } else {
-        ExitCode::FAILURE
+    match tell(&rt) {
+        Ok(()) => ExitCode::SUCCESS,
+        Err(trouble) => {
+            // Where that cannot be said either, the status is left.
+            let _ = eprintln!(rt; "accept: {trouble}");
+            ExitCode::FAILURE
+        }
     }
 }

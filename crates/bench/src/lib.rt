@@ -15,16 +15,10 @@ fn table_of(servers: &[u64]) -> Table
     ensures { result ≡ table_of servers.now }
 {
     let mut table = Table::empty();
-    let mut i: usize = 0;
-    let mut k: usize = 0;
-    while k < servers.len() / 2 {
-        let identity = (servers[i] % 65536) as u16;
-        let priority = (servers[i + 1] % 256) as u8;
-        let added = table.add(identity, priority);
-        let next = added.table;
-        table = next;
-        i += 2;
-        k += 1;
+    for server in servers.chunks_exact(2) {
+        let identity = (server[0] % 65536) as u16;
+        let priority = (server[1] % 256) as u8;
+        table = table.add(identity, priority).table;
     }
     table
 }
@@ -46,7 +40,7 @@ fn one(
     if kind < 8 {
         let first = (about % 65536) as u16;
         let second = (about / 65536 % 65536) as u16;
-        verbs::act(
+        let _ = verbs::act(
             words,
             whole,
             frame,
@@ -75,10 +69,8 @@ fn day(
     ensures { DayRuns (state_of first period (servers_of words.old) whole.old) steps.now out.old (state_of result period (servers_of words.new) whole.new) out.new }
 {
     let mut frame = first;
-    let mut i: usize = 0;
-    while i < steps.len() {
-        frame = one(words, whole, period, frame, steps[i], out);
-        i += 1;
+    for n in steps {
+        frame = one(words, whole, period, frame, *n, out);
     }
     frame
 }

@@ -18,6 +18,7 @@ use Rattle.group.specs.Answers.{Gives}
 use Rattle.group.specs.Calls.{verb, advance, advance_to, outcome_of, slice_of, call_number, call_channel, call_slice}
 use Rattle.calls.specs.Encoding.{verb_at, kinds, identities, times, call_of, lesser}
 use Rattle.calls.specs.Steps.{OneCall}
+use Rattle.frame.specs.Answers.{verdict_of, bytes_of}
 
 -- ---- which call a number is
 
@@ -93,7 +94,7 @@ module _ (m : ℕ) (d : List ℕ) where
 
 pub one-call :
     (c : State) (k m : ℕ) (d : List ℕ) {e : ℕ} {r : Answer} {s d' : List ℕ} → e ≡ lesser m (length d) →
-    Gives c (outcome_of c (call_of k (take e d))) (take e d) r.verdict r.written (state r.channel) s → d' ≡ s ++ drop e d → OneCall c k m d r d'
+    Gives c (outcome_of c (call_of k (take e d))) (take e d) (verdict_of r.written) (bytes_of r.written) (state r.channel) s → d' ≡ s ++ drop e d → OneCall c k m d r d'
 unfolding call_number call_channel call_slice
 one-call c k m d {e} {r} {s} {d'} q p f =
     let these : take e d ≡ take m d = ap (λ (n : ℕ). take n d) q ∙ first-bytes m d in

@@ -16,6 +16,7 @@ use Rattle.calls.specs.Encoding.{call_of, calls_of, lesser}
 use Rattle.calls.specs.Running.{bytes_after}
 use Rattle.calls.specs.Steps.{OneCall, ListRuns}
 use Rattle.calls.proofs.Calling.{same_number, same-channel, first-long}
+use Rattle.frame.specs.Answers.{verdict_of}
 
 -- two numbers a call
 pub how_many : (n : ℕ) (ks : List ℕ) → length (calls_of n ks) ≡ length ks / 2
@@ -68,7 +69,7 @@ module _ {c₀ : State} {ks d₀ e₀ : List ℕ} where
 
   pub go-turn :
       {d e : List ℕ} {c : State} {k n : ℕ} {r : Answer} {d' : List ℕ} → Going c₀ ks d₀ e₀ d e c k → k < length ks / 2 → length ks / 2 ≤ length e₀ →
-      length d' ≡ length d → OneCall c (get_or ks (2 * k) 0) (get_or ks (2 * k + 1) 0) d r d' → n ≡ of_verdict r.verdict →
+      length d' ≡ length d → OneCall c (get_or ks (2 * k) 0) (get_or ks (2 * k + 1) 0) d r d' → n ≡ of_verdict (verdict_of r.written) →
       Going c₀ ks d₀ e₀ d' (set e k n) (state r.channel) (k + 1)
   unfolding calls_of channel_after numbers_of bytes_after
   go-turn {d} {e} {c} {k} {n} {r} {d'} v h fits same p q =

@@ -9,13 +9,14 @@ use Rattle.channel.specs.declared.Answer.{Answer}
 use Rattle.channel.specs.declared.Opened.{Opened}
 use Rattle.channel.specs.Answers.{state, Opens, Answers}
 use Rattle.settling.specs.Chains.{ChainsSettle}
+use Rattle.frame.specs.Answers.{verdict_of}
 
 -- what the contract of the call k says of the channel c: it gets the number n and hands back e
 pub record Called (c : Channel) (k : Call) (n : ℕ) (e : Channel) : Type 0 where
   pub answer : Answer
   pub slice : List ℕ
   pub answers : Answers c (outcome_of (state c) k) (slice_of k) answer slice
-  pub number : n ≡ of_verdict answer.verdict
+  pub number : n ≡ of_verdict (verdict_of answer.written)
   pub channel : e ≡ answer.channel
 
 -- a call is that of document 01 as it stands

@@ -11,10 +11,11 @@ use Rattle.calls.specs.declared.Ended.{Ended}
 use Rattle.group.specs.Calls.{call_number, call_channel, call_slice, channel_after, numbers_of}
 use Rattle.calls.specs.Encoding.{call_of, calls_of}
 use Rattle.calls.specs.Running.{bytes_after}
+use Rattle.frame.specs.Answers.{verdict_of}
 
 -- the call of the number k, lent the first m bytes of d
 pub record OneCall (c : State) (k m : ℕ) (d : List ℕ) (r : Answer) (d' : List ℕ) : Type 0 where
-  pub number : of_verdict r.verdict ≡ call_number c (call_of k (take m d))
+  pub number : of_verdict (verdict_of r.written) ≡ call_number c (call_of k (take m d))
   pub channel : state r.channel ≡ call_channel c (call_of k (take m d))
   pub slice : d' ≡ call_slice c (call_of k (take m d)) ++ drop m d
 

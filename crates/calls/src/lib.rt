@@ -3,6 +3,7 @@
 
 ghost use Rattle.std.specs.Prelude.{◌≡◌, ◌<◌, ◌≤◌, length};
 ghost use Rattle.group.specs.Calls.{outcome_of};
+ghost use Rattle.frame.specs.Answers.{verdict_of};
 ghost use Rattle.channel.specs.Answers.{state, Answers};
 ghost use Rattle.refusal.specs.Answer.{of_verdict};
 ghost use Rattle.calls.specs.Encoding.{verb_at, call_of, lesser, calls_of};
@@ -75,11 +76,12 @@ fn lend(channel: Channel, n: u64, m: u64, out: &mut [u8]) -> Answer
     call(channel, n, &mut out[..end])
 }
 
-fn number(verdict: Result<(), Refusal>) -> u8
-    ensures { result ≡ of_verdict verdict }
+// The number of a call that wrote, or was refused.
+fn number(written: Result<usize, Refusal>) -> u8
+    ensures { result ≡ of_verdict (verdict_of written) }
 {
-    match verdict {
-        Ok(()) => 0,
+    match written {
+        Ok(_) => 0,
         Err(k) => k.number(),
     }
 }
@@ -92,10 +94,8 @@ fn run(channel: Channel, calls: &[u64], out: &mut [u8], numbers: &mut [u8]) -> C
     let mut now = channel;
     for k in 0..calls.len() / 2 {
         let answer = lend(now, calls[2 * k], calls[2 * k + 1], out);
-        let next = answer.channel;
-        let verdict = answer.verdict;
-        numbers[k] = number(verdict);
-        now = next;
+        numbers[k] = number(answer.written);
+        now = answer.channel;
     }
     now
 }

@@ -1,38 +1,29 @@
 -- The lines of a list of calls, and those of its answers.
-use Rattle.std.specs.Prelude.{◌&&◌, ◌≡◌, List, [], ◌∷◌, ◌++◌, ℕ, ◌+◌, ◌≤◌, eqb, length, get_or, take}
+use Rattle.std.specs.Prelude.{◌≡◌, List, [], ◌∷◌, ◌++◌, ℕ, ◌+◌, ◌≤◌, eqb, length, take, Option, Some, option_and_then}
 use Rattle.lists.specs.Choice.{choose}
-use Rattle.refusal.specs.Answer.{Answer}
 use Rattle.text.specs.Words.{bytes}
 use Rattle.text.specs.Digits.{digits}
-use Rattle.text.specs.Number.{read_number}
 use Rattle.text.specs.Line.{field, after_field}
 use Rattle.server.specs.declared.Server.{Server}
 use Rattle.roles.specs.Roles.{role_number}
 use Rattle.group.specs.Table.{is_empty, counted}
-use Rattle.cases.specs.declared.Arg.{Arg}
+use Rattle.asked.specs.Lines.{number_in}
 use Rattle.cases.specs.declared.Args.{Args}
 use Rattle.cases.specs.declared.Roles.{Roles}
 
--- a number that was read, 0 where it was refused
-abbrev pub of_answer : Answer → Arg
-of_answer a = record { n = get_or a.values 0 0; good = eqb a.number 0 }
-
--- a field as a number up to the greatest
-abbrev pub arg_in : ℕ → List ℕ → Arg
-arg_in greatest s = of_answer (read_number 0 greatest s)
+-- four numbers, none where one of them was refused
+abbrev pub args_of : Option ℕ → Option ℕ → Option ℕ → Option ℕ → Option Args
+args_of a b c d =
+    option_and_then (λ x. option_and_then (λ y. option_and_then (λ z. option_and_then (λ n. Some (record { x = x; y = y; z = z; length = n })) d) c) b) a
 
 -- four fields
-abbrev pub args_in : ℕ → ℕ → ℕ → ℕ → List ℕ → Args
+abbrev pub args_in : ℕ → ℕ → ℕ → ℕ → List ℕ → Option Args
 args_in x y z l s =
-    record {
-      x = (arg_in x (field s 0)).n;
-      y = (arg_in y (field (after_field s) 0)).n;
-      z = (arg_in z (field (after_field (after_field s)) 0)).n;
-      length = (arg_in l (after_field (after_field (after_field s)))).n;
-      good =
-          ((arg_in x (field s 0)).good && (arg_in y (field (after_field s) 0)).good)
-          && ((arg_in z (field (after_field (after_field s)) 0)).good && (arg_in l (after_field (after_field (after_field s)))).good);
-    }
+    args_of
+    (number_in x (field s 0))
+    (number_in y (field (after_field s) 0))
+    (number_in z (field (after_field (after_field s)) 0))
+    (number_in l (after_field (after_field (after_field s))))
 
 -- how many bytes are fillers
 abbrev pub fillers : List ℕ → ℕ

@@ -25,7 +25,7 @@ use Rattle.group.proofs.Places.{frame-after}
 use Rattle.group.proofs.Answering.{is-short, is-long, gives-not, gives_so, gives-refused, gives_as}
 use Rattle.places.specs.Words.{servers_of}
 use Rattle.frame.specs.declared.Fared.{Fared}
-use Rattle.frame.specs.Answers.{state_of, frame_fits, Plays}
+use Rattle.frame.specs.Answers.{state_of, verdict_of, bytes_of, frame_fits, Plays}
 use Rattle.channel.specs.declared.Channel.{Channel}
 use Rattle.channel.specs.declared.Answer.{Answer}
 use Rattle.channel.specs.declared.Within.{Within}
@@ -55,15 +55,15 @@ module _ {c : State} {o : Outcome} {d : List ℕ} {v : Result (Unit {0}) Refusal
 same-channel : {c x : Channel} → state x ≡ state c → x ≡ c
 same-channel e = ap (λ (s : State). record { state = s }) e
 
-pub answers : {c : Channel} {o : Outcome} {d : List ℕ} (r : Answer) {d' : List ℕ} → Gives (state c) o d r.verdict r.written (state r.channel) d' → Answers c o d r d'
-answers r g = record { gives = g; same = λ k e. same-channel (gives_same g k e) }
+pub answers : {c : Channel} {o : Outcome} {d : List ℕ} (r : Answer) {d' : List ℕ} → Gives (state c) o d (verdict_of r.written) (bytes_of r.written) (state r.channel) d' → Answers c o d r d'
+answers r g = record { gives = g; same = λ k e. same-channel (gives_same g k (ap verdict_of e)) }
 
 pub answers_as : {c : Channel} {o p : Outcome} {d : List ℕ} {r : Answer} {d' : List ℕ} → o.number ≡ p.number → o.lines ≡ p.lines → o.channel ≡ p.channel → Answers c o d r d' → Answers c p d r d'
 answers_as e f h v = record { gives = gives_as e f h v.gives; same = v.same }
 
 -- a call that gets a number by itself
 pub answers-refused :
-    (c : Channel) (o : Outcome) (d : List ℕ) {k : Refusal} {r : Answer} → r ≡ record { verdict = Err k; written = 0; channel = c } → o.number ≡ number_of k → Answers c o d r d
+    (c : Channel) (o : Outcome) (d : List ℕ) {k : Refusal} {r : Answer} → r ≡ record { written = Err k; channel = c } → o.number ≡ number_of k → Answers c o d r d
 answers-refused c o d {k} {r} q e = rw q (answers _ (gives-refused (state c) o d k e))
 
 -- what is answered of the servers of numbers w is so of the channel whose servers they are
@@ -81,7 +81,7 @@ module _ (c : State) (w : List ℕ) (same : servers_of w ≡ c.servers) where
 -- ---- one frame
 
 -- nothing happens
-pub next-quiet : (c : Channel) (d : List ℕ) {r : Answer} → Quiet (state c) → r ≡ record { verdict = (Ok tt); written = 0; channel = record { state = moved_to (state c) ((state c).frame + 1) (state c).servers } } →
+pub next-quiet : (c : Channel) (d : List ℕ) {r : Answer} → Quiet (state c) → r ≡ record { written = Ok 0; channel = record { state = moved_to (state c) ((state c).frame + 1) (state c).servers } } →
     Answers c (next_frame (state c)) d r d
 next-quiet c d q e =
     let none : length (frame_lines (state c)) ≡ 0 = ap length q.silent in
@@ -123,18 +123,18 @@ module _ (c : State) (t : ℕ) {d : List ℕ} {v : Result (Unit {0}) Refusal} {n
       (λ e. omega (arith, ap (λ (y : State). y.frame) (g.channel ∙ other _ e)))
 
 pub answers-within :
-    {c : Channel} {o : Outcome} {d : List ℕ} (r : Within) {d' : List ℕ} → Gives (state c) o d r.verdict r.written (state r.channel) d' →
+    {c : Channel} {o : Outcome} {d : List ℕ} (r : Within) {d' : List ℕ} → Gives (state c) o d (verdict_of r.written) (bytes_of r.written) (state r.channel) d' →
     r.frames ≡ (state r.channel).frame - (state c).frame → AnswersWithin c o d r d'
-answers-within r g f = record { gives = g; frames = f; same = λ k e. same-channel (gives_same g k e) }
+answers-within r g f = record { gives = g; frames = f; same = λ k e. same-channel (gives_same g k (ap verdict_of e)) }
 
 -- no frame is made, and the channel stays
 pub stays :
-    (c : Channel) {o : Outcome} {d : List ℕ} {k : Refusal} {r : Within} {d' : List ℕ} → r ≡ record { verdict = Err k; written = 0; frames = 0; channel = c } →
+    (c : Channel) {o : Outcome} {d : List ℕ} {k : Refusal} {r : Within} {d' : List ℕ} → r ≡ record { written = Err k; frames = 0; channel = c } →
     Gives (state c) o d (Err k) 0 (state c) d' → AnswersWithin c o d r d'
 stays c q g = rw q (answers-within _ g (let z : 0 ≡ (state c).frame - (state c).frame = omega arith in z))
 
 pub stays-refused :
-    (c : Channel) (t : ℕ) (d : List ℕ) {k : Refusal} {r : Within} → r ≡ record { verdict = Err k; written = 0; frames = 0; channel = c } → time_refusal (state c) t ≡ number_of k →
+    (c : Channel) (t : ℕ) (d : List ℕ) {k : Refusal} {r : Within} → r ≡ record { written = Err k; frames = 0; channel = c } → time_refusal (state c) t ≡ number_of k →
     AnswersWithin c (within_outcome (state c) t (length d)) d r d
 stays-refused c t d {k} {r} q e =
     let some : eqb (time_refusal (state c) t) 0 ≡ false = ne_eqb (time_refusal (state c) t) 0 (λ z. omega (arith, e, number-some k)) in

@@ -9,6 +9,7 @@ use Rattle.group.specs.declared.Table.{Table}
 use Rattle.group.specs.Table.{fresh_refusal, fresh}
 use Rattle.group.specs.Outcome.{Outcome}
 use Rattle.group.specs.Answers.{no_channel, Gives}
+use Rattle.frame.specs.Answers.{verdict_of, bytes_of}
 use Rattle.channel.specs.declared.Channel.{Channel}
 use Rattle.channel.specs.declared.Opened.{Opened}
 use Rattle.channel.specs.declared.Answer.{Answer}
@@ -27,12 +28,12 @@ pub record Opens (t : Table) (n : ℕ) (r : Opened) : Type 0 where
 -- a listed call on the channel c with the lent slice d: its answer, and the slice afterwards.
 -- (`write_refused`, which changes no channel, hands none back and is not said by this.)
 pub record Answers (c : Channel) (o : Outcome) (d : List ℕ) (r : Answer) (d' : List ℕ) : Type 0 where
-  pub gives : Gives (state c) o d r.verdict r.written (state r.channel) d'
+  pub gives : Gives (state c) o d (verdict_of r.written) (bytes_of r.written) (state r.channel) d'
   -- "Any of them returns its number and the same channel"
-  pub same : (k : Refusal) → r.verdict ≡ Err k → r.channel ≡ c
+  pub same : (k : Refusal) → r.written ≡ Err k → r.channel ≡ c
 
 -- the advance within a slice: its answer, and how many frames it made
 pub record AnswersWithin (c : Channel) (o : Outcome) (d : List ℕ) (r : Within) (d' : List ℕ) : Type 0 where
-  pub gives : Gives (state c) o d r.verdict r.written (state r.channel) d'
+  pub gives : Gives (state c) o d (verdict_of r.written) (bytes_of r.written) (state r.channel) d'
   pub frames : r.frames ≡ (state r.channel).frame - (state c).frame
-  pub same : (n : Refusal) → r.verdict ≡ Err n → r.channel ≡ c
+  pub same : (n : Refusal) → r.written ≡ Err n → r.channel ≡ c

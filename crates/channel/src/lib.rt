@@ -37,16 +37,14 @@ pub struct Opened {
 // What a call answers: where it is refused, nothing written and the same channel.
 #[derive(Clone, Copy)]
 pub struct Answer {
-    pub verdict: Result<(), Refusal>,
-    pub written: usize,
+    pub written: Result<usize, Refusal>,
     pub channel: Channel,
 }
 
 // What the advance within a slice answers: an answer, and how many frames it made.
 #[derive(Clone, Copy)]
 pub struct Within {
-    pub verdict: Result<(), Refusal>,
-    pub written: usize,
+    pub written: Result<usize, Refusal>,
     pub frames: u32,
     pub channel: Channel,
 }
@@ -99,11 +97,10 @@ impl Channel {
     }
 
     fn refused(self, k: Refusal) -> Answer
-        ensures { result ≡ record { verdict = Err k; written = 0; channel = self } }
+        ensures { result ≡ record { written = Err k; channel = self } }
     {
         Answer {
-            verdict: Err(k),
-            written: 0,
+            written: Err(k),
             channel: self,
         }
     }
@@ -131,13 +128,12 @@ impl Channel {
     // The next frame, in which nothing happens.
     fn idle(self) -> Answer
         requires { ((state self).frame < last_frame) × Quiet (state self) }
-        ensures { result ≡ record { verdict = Ok tt; written = 0; channel = record { state = moved_to (state self) ((state self).frame + 1) (state self).servers } } }
+        ensures { result ≡ record { written = Ok 0; channel = record { state = moved_to (state self) ((state self).frame + 1) (state self).servers } } }
     {
         let mut state = self.state;
         state.frame += 1;
         Answer {
-            verdict: Ok(()),
-            written: 0,
+            written: Ok(0),
             channel: Channel { state },
         }
     }
@@ -159,8 +155,7 @@ impl Channel {
         let after = places::servers_of(&words);
         let channel = self.moved(state.frame + 1, after);
         Answer {
-            verdict: Ok(()),
-            written: fared.at,
+            written: Ok(fared.at),
             channel,
         }
     }
@@ -202,23 +197,17 @@ impl Channel {
         let period = state.period;
         let words = places::words_of(servers);
         let ran = frames::run(words, &whole, period, state.frame, target, out);
-        let verdict = ran.verdict;
-        match verdict {
-            Ok(()) => {
+        match ran.written {
+            Ok(written) => {
                 let next = ran.words;
                 let after = places::servers_of(&next);
                 let channel = self.moved(ran.frame, after);
                 Answer {
-                    verdict,
-                    written: ran.written,
+                    written: Ok(written),
                     channel,
                 }
             }
-            Err(_) => Answer {
-                verdict,
-                written: ran.written,
-                channel: self,
-            },
+            Err(k) => self.refused(k),
         }
     }
 
@@ -236,11 +225,10 @@ impl Channel {
     }
 
     fn stays(self, k: Refusal) -> Within
-        ensures { result ≡ record { verdict = Err k; written = 0; frames = 0; channel = self } }
+        ensures { result ≡ record { written = Err k; frames = 0; channel = self } }
     {
         Within {
-            verdict: Err(k),
-            written: 0,
+            written: Err(k),
             frames: 0,
             channel: self,
         }
@@ -256,14 +244,12 @@ impl Channel {
         let period = state.period;
         let mut words = places::words_of(servers);
         let ran = frames::run_within(&mut words, &whole, period, state.frame, target, out);
-        let verdict = ran.verdict;
-        match verdict {
-            Ok(()) => {
+        match ran.written {
+            Ok(written) => {
                 let after = places::servers_of(&words);
                 let channel = self.moved(ran.frame, after);
                 Within {
-                    verdict,
-                    written: ran.written,
+                    written: Ok(written),
                     frames: ran.frame - state.frame,
                     channel,
                 }
@@ -305,12 +291,9 @@ impl Channel {
     {
         let before = self.state;
         let next = verbs::next(before, verb, a, b, out);
-        let verdict = next.verdict;
-        let state = next.state;
         Answer {
-            verdict,
             written: next.written,
-            channel: Channel { state },
+            channel: Channel { state: next.state },
         }
     }
 

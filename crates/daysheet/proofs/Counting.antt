@@ -1,4 +1,5 @@
 -- A whole day, counted call by call. Assumes nothing.
+use Rattle.std.specs.Prelude.{Option, Some, None}
 use mathlib.Core.Bool.{true, false}
 use mathlib.Core.Path.{◌≡◌, refl, sym, ap, subst, ◌∙◌}
 use mathlib.Core.List.{List, [], ◌∷◌, ◌++◌, append-nil}
@@ -8,7 +9,7 @@ use native.Mathlib.Omega.{arith}
 use lib.ListN.{length, take, drop, length-append, length-drop}
 use lib.Seq.{drop-drop}
 use Rattle.lists.specs.Choice.{choose}
-use Rattle.lists.proofs.Cases.{less, on, clash, chosen, other, by_choice}
+use Rattle.lists.proofs.Cases.{less, on, chosen, other, by_choice}
 use Rattle.lists.proofs.Parts.{part-rest}
 use Rattle.day.specs.Sheet.{header, sheet}
 use Rattle.feeding.specs.Fed.{Fed, beginning, remaining}
@@ -20,7 +21,6 @@ use Rattle.printer.specs.Answers.{Prints}
 use Rattle.printer.specs.Laws.{Call, answer, Calls, none, Moves}
 use Rattle.printer.proofs.Told.{begun_to, printed-to}
 use Rattle.printer.proofs.Laws.{call-more, laws}
-use Rattle.daysheet.specs.declared.Spent.{Spent}
 use Rattle.daysheet.specs.Steps.{Spends}
 
 -- calls so far, over the first i bytes, and what they and the header left of the room
@@ -35,25 +35,31 @@ pub record Counting (s : List ℕ) (room : ℕ) (f : Fed) (left i : ℕ) : Type 
 unfoldable pub to_count : Fed → ℕ → ℕ → ℕ
 to_count f n left = n + left + choose f.over 0 1
 
+same-some : {m n : ℕ} → ◌≡◌ {A = Option ℕ} (Some m) (Some n) → m ≡ n
+same-some e = cc
+
+not-none : {A : Type 0} {n : ℕ} → ◌≡◌ {A = Option ℕ} (Some n) None → A
+not-none e = absurd (let z : ◌≡◌ {A = ℕ} 0 1 = cc in omega arith)
+
 -- ---- the header
 
 header-first : (s : List ℕ) → length header ≤ length (sheet s)
 header-first s = let l = ap length (laws.calls s s [] [] beginning none) in let k = length-append header (remaining beginning s) in omega arith
 
-module _ (s : List ℕ) {room : ℕ} {d : List ℕ} {r : Step} {d' : List ℕ} {p : Spent} (b : Begins d r d') (q : Spends r.written room p) (h : step_bytes ≤ length d) where
-  pub header-over : p.fits ≡ false → room < length (sheet s)
+module _ (s : List ℕ) {room : ℕ} {d : List ℕ} {r : Step} {d' : List ℕ} {p : Option ℕ} (b : Begins d r d') (q : Spends r.written room p) (h : step_bytes ≤ length d) where
+  pub header-over : p ≡ None → room < length (sheet s)
   header-over e =
       on (less room (length header))
       (λ l. let k = header-first s in omega arith)
-      (λ l. absurd (clash (q.so (length header) (begun_to b (omega arith)) l).0 e))
+      (λ l. not-none (sym (q.so (length header) (begun_to b (omega arith)) l) ∙ e))
 
-  pub count-begins : {f : Fed} → p.fits ≡ true → f ≡ beginning → Counting s room f p.left 0
-  count-begins {f} e is =
+  pub count-begins : {f : Fed} {left : ℕ} → p ≡ Some left → f ≡ beginning → Counting s room f left 0
+  count-begins {f} {left} e is =
       on (less room (length header))
-      (λ l. absurd (clash e (q.not (length header) (begun_to b (omega arith)) l)))
+      (λ l. not-none (sym e ∙ q.not (length header) (begun_to b (omega arith)) l))
       (λ l.
-      subst (λ (g : Fed). Counting s room g p.left 0) (sym is)
-      (record { within = omega arith; made = []; printed = []; calls = none; sum = let k = (q.so (length header) (begun_to b (omega arith)) l).1 in omega arith }))
+      subst (λ (g : Fed). Counting s room g left 0) (sym is)
+      (record { within = omega arith; made = []; printed = []; calls = none; sum = let k = same-some (sym e ∙ q.so (length header) (begun_to b (omega arith)) l) in omega arith }))
 
 -- ---- a call
 
@@ -98,20 +104,20 @@ module _ {s : List ℕ} {room : ℕ} {f : Fed} {left i : ℕ} {d : List ℕ} {r 
       let c = length-append (v.printed ++ lines) (remaining f' t) in
       omega arith
 
-  module _ {q : Spent} (z : Spends r.written left q) where
-    pub count-over : q.fits ≡ false → room < length (sheet s)
+  module _ {q : Option ℕ} (z : Spends r.written left q) where
+    pub count-over : q ≡ None → room < length (sheet s)
     count-over e =
         on (less left (length lines))
         (λ l. let a = at_least in let b = long in let c = v.sum in omega arith)
-        (λ l. absurd (clash (z.so (length lines) (printed-to p moves.accepted) l).0 e))
+        (λ l. not-none (sym (z.so (length lines) (printed-to p moves.accepted) l) ∙ e))
 
-    left-then : q.fits ≡ true → q.left + length lines ≡ left
+    left-then : {n : ℕ} → q ≡ Some n → n + length lines ≡ left
     left-then e =
         on (less left (length lines))
-        (λ l. absurd (clash e (z.not (length lines) (printed-to p moves.accepted) l)))
-        (λ l. (z.so (length lines) (printed-to p moves.accepted) l).1)
+        (λ l. not-none (sym e ∙ z.not (length lines) (printed-to p moves.accepted) l))
+        (λ l. let k = same-some (sym e ∙ z.so (length lines) (printed-to p moves.accepted) l) in omega arith)
 
-    pub count_turn : q.fits ≡ true → Counting s room f' q.left (i + r.used)
+    pub count_turn : {n : ℕ} → q ≡ Some n → Counting s room f' n (i + r.used)
     count_turn e =
         record {
           within = used-within;
@@ -121,7 +127,7 @@ module _ {s : List ℕ} {room : ℕ} {f : Fed} {left i : ℕ} {d : List ℕ} {r 
           sum = let a = left-then e in let b = long in let c = v.sum in omega arith;
         }
 
-    pub count_less : q.fits ≡ true → to_count f' (length s - (i + r.used)) q.left < to_count f (length s - i) left
+    pub count_less : {n : ℕ} → q ≡ Some n → to_count f' (length s - (i + r.used)) n < to_count f (length s - i) left
     unfolding to_count
     count_less e =
         let a = left-then e in

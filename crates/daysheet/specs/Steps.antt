@@ -1,9 +1,8 @@
 -- What private functions answer. Nothing is promised here.
-use Rattle.std.specs.Prelude.{◌≡◌, true, false, ℕ, ◌+◌, ◌≤◌, ◌<◌, Result, Ok}
-use Rattle.daysheet.specs.declared.Spent.{Spent}
+use Rattle.std.specs.Prelude.{◌≡◌, ℕ, ◌-◌, ◌≤◌, ◌<◌, Result, Ok, Option, Some, None}
 use Rattle.refusal.specs.declared.Refusal.{Refusal}
 
 -- bytes that fit into what is left
-pub record Spends (p : Result ℕ Refusal) (left : ℕ) (r : Spent) : Type 0 where
-  pub so : (n : ℕ) → p ≡ Ok n → n ≤ left → (r.fits ≡ true) × (r.left + n ≡ left)
-  pub not : (n : ℕ) → p ≡ Ok n → left < n → r.fits ≡ false
+pub record Spends (p : Result ℕ Refusal) (left : ℕ) (r : Option ℕ) : Type 0 where
+  pub so : (n : ℕ) → p ≡ Ok n → n ≤ left → r ≡ Some (left - n)
+  pub not : (n : ℕ) → p ≡ Ok n → left < n → r ≡ None

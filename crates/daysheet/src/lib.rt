@@ -11,29 +11,12 @@ use feed::Feed;
 use group::Table;
 use refusal::Refusal;
 
-// Whether bytes fit into what is left, and what is left then.
-#[derive(Clone, Copy)]
-struct Spent {
-    fits: bool,
-    left: usize,
-}
-
-fn spend(written: Result<usize, Refusal>, left: usize) -> Spent
+// What is left where the bytes written fit into it.
+fn spend(written: Result<usize, Refusal>, left: usize) -> Option<usize>
     ensures { Spends written left result }
 {
-    match written {
-        Ok(n) => {
-            if n > left {
-                Spent { fits: false, left }
-            } else {
-                Spent {
-                    fits: true,
-                    left: left - n,
-                }
-            }
-        }
-        Err(_) => Spent { fits: false, left },
-    }
+    let n = written.ok()?;
+    left.checked_sub(n)
 }
 
 // Whether the sheet of a day fits into so many bytes; the scratch slice has room for a step.
@@ -42,16 +25,13 @@ fn fits(day: &[u8], scratch: &mut [u8], room: usize) -> bool
     ensures { result ≡ leb (length (sheet day.now)) room }
 {
     let begun = Feed::begin(scratch);
-    let header = begun.written;
-    let after = spend(header, room);
-    if !after.fits {
+    let Some(mut left) = spend(begun.written, room) else {
         return false;
-    }
+    };
     let mut line = [0; Feed::LINE];
     let mut words = [0; places::PACKED];
     let mut whole = [true; Table::LINKS];
     let mut feed = begun.feed;
-    let mut left = after.left;
     let mut i: usize = 0;
     while !feed.over() {
         let printed = printer::print(
@@ -63,15 +43,12 @@ fn fits(day: &[u8], scratch: &mut [u8], room: usize) -> bool
             true,
             scratch,
         );
-        let written = printed.written;
-        let next = printed.feed;
-        let spent = spend(written, left);
-        if !spent.fits {
+        let Some(rest) = spend(printed.written, left) else {
             return false;
-        }
-        left = spent.left;
+        };
+        left = rest;
         i += printed.used;
-        feed = next;
+        feed = printed.feed;
     }
     true
 }
@@ -83,13 +60,12 @@ fn write(day: &[u8], out: &mut [u8]) -> usize
 {
     let begun = Feed::begin(out);
     let header = begun.written;
-    let feed = begun.feed;
     let at = printer::bytes(header);
     let mut line = [0; Feed::LINE];
     let mut words = [0; places::PACKED];
     let mut whole = [true; Table::LINKS];
     let printed = printer::print(
-        feed,
+        begun.feed,
         &mut line,
         &mut words,
         &mut whole,
@@ -97,8 +73,7 @@ fn write(day: &[u8], out: &mut [u8]) -> usize
         true,
         &mut out[at..],
     );
-    let written = printed.written;
-    at + printer::bytes(written)
+    at + printer::bytes(printed.written)
 }
 
 // The sheet of a whole day, at the slice's start; 9 where it does not fit, and then no byte is

@@ -18,6 +18,10 @@ use Rattle.feed.specs.declared.Filled.{Filled}
 use Rattle.feed.specs.declared.Step.{Step}
 use Rattle.feed.specs.Answers.{channel_of, fed_of, TakesIn, Makes}
 
+-- so many bytes of the line are there
+abbrev pub with_length : Feed → ℕ → Feed
+with_length x n = record { over = x.over; number = x.number; length = n; stage = x.stage; frame = x.frame; period = x.period }
+
 -- the line l, filled from the piece s
 abbrev pub Fills : Feed → List ℕ → List ℕ → Filled → Type 0
 Fills x l s r = (w : List ℕ) (k : List Bool) → TakesIn x l w k s r.used r.feed r.line

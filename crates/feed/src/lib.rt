@@ -2,7 +2,7 @@
 // links are lent, and changed in place.
 #![tactic(auto)]
 
-ghost use Rattle.std.specs.Prelude.{◌≡◌, true, [], ◌-◌, ◌≤◌, ◌<◌, length, take};
+ghost use Rattle.std.specs.Prelude.{◌≡◌, true, [], ◌+◌, ◌-◌, ◌≤◌, ◌<◌, length, take};
 ghost use Rattle.refusal.specs.Answer.{of_verdict, number_of};
 ghost use Rattle.text.specs.Write.{Writes};
 ghost use Rattle.text.specs.Steps.{Pieces};
@@ -17,7 +17,7 @@ ghost use Rattle.feeding.specs.Fed.{whole_line};
 ghost use Rattle.feeding.specs.Moves.{ended, stopping, going, effect_move, frames_now, advancing, placed_move, line_move, step_move, steps_move};
 ghost use Rattle.feeding.specs.Steps.{on_move, Sized};
 ghost use Rattle.feed.specs.Answers.{fed_of, Begins, Waits, IsOver, TakesTo, MakesIn, Finishes};
-ghost use Rattle.feed.specs.Steps.{Fills, Made, Does, Keeps, Becomes, IsOf, FollowsAll, turned, Puts, refusing, RefusesCall, Opens};
+ghost use Rattle.feed.specs.Steps.{with_length, Fills, Made, Does, Keeps, Becomes, IsOf, FollowsAll, turned, Puts, refusing, RefusesCall, Opens};
 
 use dayline::DayLine;
 use group::{Links, State, Table};
@@ -143,27 +143,33 @@ impl Feed {
         self.over
     }
 
+    // A line with so many bytes more.
+    fn filled(self, line: [u8; Feed::LINE], used: usize) -> Filled
+        requires { self.length + used < 18446744073709551616 }
+        ensures line { result.line ≡ line }
+        ensures used { result.used ≡ used }
+        ensures feed { result.feed ≡ with_length self (self.length + used) }
+    {
+        let mut feed = self;
+        feed.length += used;
+        Filled { line, used, feed }
+    }
+
     fn fill(self, bytes: [u8; Feed::LINE], piece: &[u8]) -> Filled
         ensures { Fills self bytes piece.now result }
     {
         let mut line = bytes;
-        let mut n = self.length;
-        let mut i: usize = 0;
-        let mut shut = self.over | is_whole(&bytes, n);
-        while (i < piece.len()) & !shut {
-            let x = piece[i];
+        if self.over | is_whole(&bytes, self.length) {
+            return self.filled(line, 0);
+        }
+        for (i, &x) in piece.iter().enumerate() {
+            let n = self.length + i;
             line[n] = x;
-            n += 1;
-            i += 1;
-            shut = (n >= Feed::LINE) | (x == b'\n');
+            if (n + 1 >= Feed::LINE) | (x == b'\n') {
+                return self.filled(line, i + 1);
+            }
         }
-        let mut feed = self;
-        feed.length = n;
-        Filled {
-            line,
-            used: i,
-            feed,
-        }
+        self.filled(line, piece.len())
     }
 
     // Bytes of a piece, up to the line feed of the line under way or until it is too long; none
@@ -419,9 +425,8 @@ impl Feed {
     {
         let period = self.period;
         let ran = frames::run_within(words, whole, period, self.frame, time, out);
-        let verdict = ran.verdict;
-        match verdict {
-            Ok(()) => {
+        match ran.written {
+            Ok(written) => {
                 let next = Feed {
                     over: self.over,
                     number: self.number,
@@ -431,7 +436,7 @@ impl Feed {
                     period,
                 };
                 Step {
-                    written: Ok(ran.written),
+                    written: Ok(written),
                     feed: next,
                 }
             }
@@ -470,11 +475,9 @@ impl Feed {
         requires { (self.number ≤ last_line) × Made self.stage }
         ensures { Does self words.old whole.old (λ f c. effect_move f (call_effect [] c verb a b)) out.old result words.new whole.new out.new }
     {
-        let acted = verbs::act(words, whole, self.frame, verb, a, b, out);
-        let verdict = acted.verdict;
-        match verdict {
-            Ok(()) => Step {
-                written: Ok(acted.written),
+        match verbs::act(words, whole, self.frame, verb, a, b, out) {
+            Ok(written) => Step {
+                written: Ok(written),
                 feed: self.turned(Stage::AtEntries),
             },
             Err(k) => self.refuse_call(a, k, out),

@@ -1,7 +1,8 @@
 -- What one frame of the servers answers.
-use Rattle.std.specs.Prelude.{Bool, true, false, not, ◌&&◌, ◌||◌, ◌≡◌, List, ℕ, ◌+◌, ◌*◌, ltb, length}
+use Rattle.std.specs.Prelude.{Bool, true, false, not, ◌&&◌, ◌||◌, ◌≡◌, List, ℕ, ◌+◌, ◌*◌, ltb, length, Result, Ok, Err}
 use Rattle.lists.specs.Choice.{choose}
 use Rattle.lists.specs.Splice.{splice, fits}
+use Rattle.refusal.specs.declared.Refusal.{Refusal}
 use Rattle.roles.specs.declared.Role.{Role}
 use Rattle.roles.specs.declared.Role.TheVariants.{Down, Idle, Sync, Backup, Prospect, Primary}
 use Rattle.periods.specs.declared.Period.{Period}
@@ -18,6 +19,15 @@ use Rattle.frame.specs.declared.Fared.{Fared}
 -- the channel in frame t with the period p, the servers l and the links w
 abbrev pub state_of : ℕ → Period → List Server → List Bool → State
 state_of t p l w = record { frame = t; period = p; servers = l; whole = w }
+
+-- a call that answers how many bytes it wrote: its verdict, and these; none where it is refused
+abbrev pub verdict_of : Result ℕ Refusal → Result (Unit {0}) Refusal
+verdict_of (Ok n) = Ok tt
+verdict_of (Err k) = Err k
+
+abbrev pub bytes_of : Result ℕ Refusal → ℕ
+bytes_of (Ok n) = n
+bytes_of (Err k) = 0
 
 -- no frame writes more bytes where no server sent more than n plain beats in the one before: each
 -- server hears each of them, a reveal and a pass of every server, and has three timers, each with

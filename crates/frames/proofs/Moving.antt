@@ -46,5 +46,5 @@ pub answered :
     Becomes w (channel_in c o (length d)).servers w'
 answered g k = becomes k (ap (λ (x : State). x.servers) g.channel)
 
-pub accepted-not : {A : Type 0} (k : Refusal) → ◌≡◌ {A = Result (Unit {0}) Refusal} (Ok tt) (Err k) → A
+pub accepted-not : {A : Type 0} {n : ℕ} (k : Refusal) → ◌≡◌ {A = Result ℕ Refusal} (Ok n) (Err k) → A
 accepted-not k e = let z : ◌≡◌ {A = ℕ} 0 1 = cc in absurd (omega arith)

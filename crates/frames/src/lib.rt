@@ -444,8 +444,7 @@ fn play_within(
 // numbers.
 #[derive(Clone, Copy)]
 pub struct Advance {
-    pub verdict: Result<(), Refusal>,
-    pub written: usize,
+    pub written: Result<usize, Refusal>,
     pub frame: u32,
     pub words: Packed,
 }
@@ -465,8 +464,7 @@ pub fn run(
     let counted = count_all(words, whole, period, frame, target, out);
     if counted > out.len() {
         return Advance {
-            verdict: Err(Refusal::Short),
-            written: 0,
+            written: Err(Refusal::Short),
             frame,
             words,
         };
@@ -474,8 +472,7 @@ pub fn run(
     let mut next = words;
     let played = play_within(&mut next, words, whole, period, frame, target, out);
     Advance {
-        verdict: Ok(()),
-        written: played.at,
+        written: Ok(played.at),
         frame: played.frame,
         words: next,
     }
@@ -485,8 +482,7 @@ pub fn run(
 // same numbers.
 #[derive(Clone, Copy)]
 pub struct Ran {
-    pub verdict: Result<(), Refusal>,
-    pub written: usize,
+    pub written: Result<usize, Refusal>,
     pub frame: u32,
 }
 
@@ -539,8 +535,7 @@ pub fn run_within(
 {
     if nothing_until(words, period, frame, target) {
         return Ran {
-            verdict: Ok(()),
-            written: 0,
+            written: Ok(0),
             frame: target,
         };
     }
@@ -548,14 +543,12 @@ pub fn run_within(
     let played = play_within(words, held, whole, period, frame, target, out);
     if (frame < target) & (played.frame == frame) {
         return Ran {
-            verdict: Err(Refusal::Short),
-            written: 0,
+            written: Err(Refusal::Short),
             frame,
         };
     }
     Ran {
-        verdict: Ok(()),
-        written: played.at,
+        written: Ok(played.at),
         frame: played.frame,
     }
 }

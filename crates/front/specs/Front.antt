@@ -18,8 +18,7 @@ use Rattle.front.specs.declared.Front.{Front}
 use Rattle.front.specs.declared.HeardNow.{HeardNow}
 use Rattle.front.specs.declared.TimedNow.{TimedNow}
 use Rattle.front.specs.declared.ActedNow.{ActedNow}
-use Rattle.front.specs.declared.AfterHearing.{AfterHearing}
-use Rattle.front.specs.declared.AfterTimers.{AfterTimers}
+use Rattle.front.specs.declared.After.{After}
 use Rattle.refusal.specs.declared.Refusal.{Refusal}
 
 -- ---- a front made
@@ -76,7 +75,7 @@ pub record FrontBegins (f : Front) (r : Result (Unit {0}) Refusal) (f' : Front) 
 
 -- "Hearing, one heartbeat at a time": in the present frame. The event answered is that of this one
 -- heartbeat
-abbrev pub hearing : Front → Heartbeat → AfterHearing
+abbrev pub hearing : Front → Heartbeat → After Front HeardNow
 hearing f h =
     let r = heard f.frame f.server h in
     record { front = with_server r.server f; answer = record { event = r.event; role = r.server.role } }
@@ -88,7 +87,7 @@ pub record FrontHears (f : Front) (h : Heartbeat) (r : HeardNow) (f' : Front) : 
 -- "Timers, after all hearing in the frame": in the present frame. The events answered are those of
 -- the three timers, in their order: "backup with silence age 2 × P: to prospect, sending a reveal",
 -- "beat age P: a plain beat", "then prospect with prospect age 2 × P: to primary"
-abbrev pub timing : Front → AfterTimers
+abbrev pub timing : Front → After Front TimedNow
 timing f =
     let r = timed f.frame f.period f.server in
     record { front = with_server r.server f; answer = record { silent = r.silent; beating = r.beating; rising = r.rising; role = r.server.role } }

@@ -46,27 +46,9 @@ pub struct ActedNow {
 
 // A front after a step, and the step's answer.
 #[derive(Clone, Copy)]
-pub struct AfterBegin {
-    pub front: Front,
-    pub answer: Result<(), Refusal>,
-}
-
-#[derive(Clone, Copy)]
-pub struct AfterHearing {
-    pub front: Front,
-    pub answer: HeardNow,
-}
-
-#[derive(Clone, Copy)]
-pub struct AfterTimers {
-    pub front: Front,
-    pub answer: TimedNow,
-}
-
-#[derive(Clone, Copy)]
-pub struct AfterVerb {
-    pub front: Front,
-    pub answer: ActedNow,
+pub struct After<F, A> {
+    pub front: F,
+    pub answer: A,
 }
 
 // ---- a front made
@@ -98,19 +80,19 @@ impl Front {
 
 impl Front {
     // The next frame, with nothing sent yet; 16 from the day's last frame on, and the same front.
-    pub fn begun(self) -> AfterBegin
+    pub fn begun(self) -> After<Front, Result<(), Refusal>>
         ensures { FrontBegins self result.answer result.front }
     {
         if self.frame < Timecode::DAY - 1 {
             let cleared = self.server.cleared();
             let mut front = self.with_server(cleared);
             front.frame = self.frame + 1;
-            AfterBegin {
+            After {
                 front,
                 answer: Ok(()),
             }
         } else {
-            AfterBegin {
+            After {
                 front: self,
                 answer: Err(Refusal::DayOver),
             }
@@ -118,7 +100,7 @@ impl Front {
     }
 
     // One heartbeat, heard in the present frame.
-    pub fn heard(self, h: Heartbeat) -> AfterHearing
+    pub fn heard(self, h: Heartbeat) -> After<Front, HeardNow>
         ensures { result ≡ hearing self h }
     {
         let was = self.server;
@@ -126,14 +108,14 @@ impl Front {
         let event = heard.event;
         let hearer = heard.server;
         let role = hearer.role;
-        AfterHearing {
+        After {
             front: self.with_server(hearer),
             answer: HeardNow { event, role },
         }
     }
 
     // The timers of the present frame.
-    pub fn timed(self) -> AfterTimers
+    pub fn timed(self) -> After<Front, TimedNow>
         ensures { result ≡ timing self }
     {
         let was = self.server;
@@ -143,7 +125,7 @@ impl Front {
         let rising = timed.rising;
         let server = timed.server;
         let role = server.role;
-        AfterTimers {
+        After {
             front: self.with_server(server),
             answer: TimedNow {
                 silent,
@@ -156,7 +138,7 @@ impl Front {
 
     // A verb in the present frame; `to` is the second identity, where the verb has one. Where it is
     // refused, the same front.
-    pub fn acted(self, verb: Verb, to: u16) -> AfterVerb
+    pub fn acted(self, verb: Verb, to: u16) -> After<Front, ActedNow>
         ensures { FrontActs verb to self result.answer result.front }
     {
         let was = self.server;
@@ -165,7 +147,7 @@ impl Front {
         let event = acted.event;
         let acting = acted.server;
         let role = acting.role;
-        AfterVerb {
+        After {
             front: self.with_server(acting),
             answer: ActedNow {
                 verdict,
@@ -174,128 +156,81 @@ impl Front {
             },
         }
     }
-
-    fn started(self) -> AfterVerb
-        ensures { FrontActs Verb.Start 0 self result.answer result.front }
-    {
-        self.acted(Verb::Start, 0)
-    }
-
-    fn readied(self) -> AfterVerb
-        ensures { FrontActs Verb.Ready 0 self result.answer result.front }
-    {
-        self.acted(Verb::Ready, 0)
-    }
-
-    fn unreadied(self) -> AfterVerb
-        ensures { FrontActs Verb.Unready 0 self result.answer result.front }
-    {
-        self.acted(Verb::Unready, 0)
-    }
-
-    fn passed(self, to: u16) -> AfterVerb
-        ensures { FrontActs Verb.Pass to self result.answer result.front }
-    {
-        self.acted(Verb::Pass, to)
-    }
-
-    fn crashed(self) -> AfterVerb
-        ensures { FrontActs Verb.Crash 0 self result.answer result.front }
-    {
-        self.acted(Verb::Crash, 0)
-    }
-
-    fn restarted(self) -> AfterVerb
-        ensures { FrontActs Verb.Restart 0 self result.answer result.front }
-    {
-        self.acted(Verb::Restart, 0)
-    }
 }
 
 // ---- the front proper: each step moves it on in place
 
 impl Front {
+    // The front after a step in the place of this one, and the step's answer.
+    fn moved<A>(&mut self, next: After<Front, A>) -> A
+        ensures front { self.new ≡ next.front }
+        ensures answer { result ≡ next.answer }
+    {
+        *self = next.front;
+        next.answer
+    }
+
     // The next frame begins; 16 from the day's last frame on, and the same front.
     pub fn begin(&mut self) -> Result<(), Refusal>
         ensures { FrontBegins self.old result self.new }
     {
-        let next = (*self).begun();
-        *self = next.front;
-        next.answer
+        self.moved((*self).begun())
     }
 
     // One heartbeat, heard in the present frame.
     pub fn hear(&mut self, h: Heartbeat) -> HeardNow
         ensures { FrontHears self.old h result self.new }
     {
-        let next = (*self).heard(h);
-        *self = next.front;
-        next.answer
+        self.moved((*self).heard(h))
     }
 
     // The timers of the present frame, after all hearing in it.
     pub fn tick(&mut self) -> TimedNow
         ensures { FrontTicks self.old result self.new }
     {
-        let next = (*self).timed();
-        *self = next.front;
-        next.answer
+        self.moved((*self).timed())
     }
 
     // A verb in the present frame; where it is refused, the same front.
     pub fn act(&mut self, verb: Verb, to: u16) -> ActedNow
         ensures { FrontActs verb to self.old result self.new }
     {
-        let next = (*self).acted(verb, to);
-        *self = next.front;
-        next.answer
+        self.moved((*self).acted(verb, to))
     }
 
     pub fn start(&mut self) -> ActedNow
         ensures { FrontActs Verb.Start 0 self.old result self.new }
     {
-        let next = (*self).started();
-        *self = next.front;
-        next.answer
+        self.act(Verb::Start, 0)
     }
 
     pub fn ready(&mut self) -> ActedNow
         ensures { FrontActs Verb.Ready 0 self.old result self.new }
     {
-        let next = (*self).readied();
-        *self = next.front;
-        next.answer
+        self.act(Verb::Ready, 0)
     }
 
     pub fn unready(&mut self) -> ActedNow
         ensures { FrontActs Verb.Unready 0 self.old result self.new }
     {
-        let next = (*self).unreadied();
-        *self = next.front;
-        next.answer
+        self.act(Verb::Unready, 0)
     }
 
     pub fn pass(&mut self, to: u16) -> ActedNow
         ensures { FrontActs Verb.Pass to self.old result self.new }
     {
-        let next = (*self).passed(to);
-        *self = next.front;
-        next.answer
+        self.act(Verb::Pass, to)
     }
 
     pub fn crash(&mut self) -> ActedNow
         ensures { FrontActs Verb.Crash 0 self.old result self.new }
     {
-        let next = (*self).crashed();
-        *self = next.front;
-        next.answer
+        self.act(Verb::Crash, 0)
     }
 
     pub fn restart(&mut self) -> ActedNow
         ensures { FrontActs Verb.Restart 0 self.old result self.new }
     {
-        let next = (*self).restarted();
-        *self = next.front;
-        next.answer
+        self.act(Verb::Restart, 0)
     }
 }

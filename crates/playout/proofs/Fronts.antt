@@ -26,14 +26,13 @@ use Rattle.plain.specs.Numbers.{is_verb, verb_of, event_number, is_period}
 use Rattle.plain.specs.Plain.{server_of, is_front, front_of, plain_front, is_heartbeat}
 use Rattle.plain.proofs.Laws.{front-faithful}
 use Rattle.playout.specs.declared.FrontActed.{FrontActed}
-use Rattle.playout.specs.declared.AfterBegin.{AfterBegin}
-use Rattle.playout.specs.declared.AfterHearing.{AfterHearing}
-use Rattle.playout.specs.declared.AfterTimers.{AfterTimers}
-use Rattle.playout.specs.declared.AfterVerb.{AfterVerb}
+use Rattle.front.specs.declared.After.{After}
 use Rattle.playout.specs.Front.{ill, front_made, begin_number, Begins, not_heard, Hears, not_timed, Ticks, after_verb, act_number, Acts}
 use Rattle.playout.specs.Steps.{made_of, BeginsWell, hears_well, ticks_well, acted_as, ActsWell}
 use Rattle.playout.proofs.Choices.{through, by_number}
 use Rattle.refusal.specs.declared.Refusal.{Refusal}
+use Rattle.playout.specs.declared.FrontHeard.{FrontHeard}
+use Rattle.playout.specs.declared.FrontTimed.{FrontTimed}
 
 pub front-made : (i q n : ℕ) → made_of (take_front i q n) ≡ front_made i q n
 unfolding take_front front_made
@@ -46,14 +45,14 @@ module _ (p : PlainFront) where
   unfolding begin_number
   begin-number e = chosen _ e
 
-  pub begin-of : (r : AfterBegin) {f f' : Front} {v : Result (Unit {0}) Refusal} → f ≡ front_of p → FrontBegins f v f' → r.answer ≡ of_verdict v → r.front ≡ plain_front f' → BeginsWell p r
+  pub begin-of : (r : After PlainFront ℕ) {f f' : Front} {v : Result (Unit {0}) Refusal} → f ≡ front_of p → FrontBegins f v f' → r.answer ≡ of_verdict v → r.front ≡ plain_front f' → BeginsWell p r
   begin-of r e g a b =
       record {
         number = a ∙ g.number ∙ ap (λ (f : Front). choose (goes_on f) 0 16) e;
         front = b ∙ ap plain_front g.front ∙ ap (λ (f : Front). plain_front (choose (goes_on f) (risen f) f)) e;
       }
 
-  pub begins_well : (r : AfterBegin) → is_front p ≡ true → BeginsWell p r → Begins p r.answer r.front
+  pub begins_well : (r : After PlainFront ℕ) → is_front p ≡ true → BeginsWell p r → Begins p r.answer r.front
   begins_well r e w = record { number = w.number ∙ sym (begin-number e); front = w.front ∙ next (tested (goes_on (front_of p))) }
     where
       next : (goes_on (front_of p) ≡ true) ⊎ (goes_on (front_of p) ≡ false) → plain_front (choose (goes_on (front_of p)) (risen (front_of p)) (front_of p)) ≡ choose (eqb (begin_number p) 0) (plain_front (risen (front_of p))) p
@@ -67,8 +66,8 @@ module _ (p : PlainFront) where
 -- ---- hearing
 
 module _ (p : PlainFront) (h : PlainHeartbeat) where
-  pub hears_well_lem : (r : AfterHearing) → (is_front p && is_heartbeat h) ≡ true → r ≡ hears_well p h → Hears p h r.answer r.front
-  hears_well_lem r e w = record { answer = ap (λ (z : AfterHearing). z.answer) w ∙ sym (chosen _ e); front = ap (λ (z : AfterHearing). z.front) w ∙ sym (chosen _ e) }
+  pub hears_well_lem : (r : After PlainFront FrontHeard) → (is_front p && is_heartbeat h) ≡ true → r ≡ hears_well p h → Hears p h r.answer r.front
+  hears_well_lem r e w = record { answer = ap (λ (z : After PlainFront FrontHeard). z.answer) w ∙ sym (chosen _ e); front = ap (λ (z : After PlainFront FrontHeard). z.front) w ∙ sym (chosen _ e) }
 
   pub hears-ill : (is_front p && is_heartbeat h) ≡ false → Hears p h not_heard p
   hears-ill e = record { answer = sym (other _ e); front = sym (other _ e) }
@@ -76,8 +75,8 @@ module _ (p : PlainFront) (h : PlainHeartbeat) where
 -- ---- timers
 
 module _ (p : PlainFront) where
-  pub ticks_well_lem : (r : AfterTimers) → is_front p ≡ true → r ≡ ticks_well p → Ticks p r.answer r.front
-  ticks_well_lem r e w = record { answer = ap (λ (z : AfterTimers). z.answer) w ∙ sym (chosen _ e); front = ap (λ (z : AfterTimers). z.front) w ∙ sym (chosen _ e) }
+  pub ticks_well_lem : (r : After PlainFront FrontTimed) → is_front p ≡ true → r ≡ ticks_well p → Ticks p r.answer r.front
+  ticks_well_lem r e w = record { answer = ap (λ (z : After PlainFront FrontTimed). z.answer) w ∙ sym (chosen _ e); front = ap (λ (z : After PlainFront FrontTimed). z.front) w ∙ sym (chosen _ e) }
 
   pub ticks-ill : is_front p ≡ false → Ticks p not_timed p
   ticks-ill e = record { answer = sym (other _ e); front = sym (other _ e) }
@@ -97,7 +96,7 @@ module _ (p : PlainFront) (v b : ℕ) where
   number = (verb_answer (verb_of v) b (server_of p.server)).number
 
   pub act-of :
-      (r : AfterVerb) {n e k : ℕ} {f : Front} {a : ActedNow} {f' : Front} {w : Verb} → f ≡ front_of p → w ≡ verb_of v → FrontActs w b f a f' →
+      (r : After PlainFront FrontActed) {n e k : ℕ} {f : Front} {a : ActedNow} {f' : Front} {w : Verb} → f ≡ front_of p → w ≡ verb_of v → FrontActs w b f a f' →
       r.answer ≡ acted_as n e k → n ≡ of_verdict a.verdict → e ≡ event_number a.event → k ≡ role_number a.role → r.front ≡ plain_front f' →
       ActsWell p v b r
   act-of r {n} {e} {k} {f} {a} {f'} {w} ef ew g is ns es ks fs =
@@ -121,7 +120,7 @@ module _ (p : PlainFront) (v b : ℕ) where
       let none : happens (verb_of v) b (front_of p) ≡ Nothing = other _ (ne_eqb number 0 z) in
       ap (λ (e : Event). with_server (after p.frame (server_of p.server) e) (front_of p)) none
 
-  pub acts_well : (r : AfterVerb) → (is_front p && is_verb v) ≡ true → ActsWell p v b r → Acts p v b r.answer r.front
+  pub acts_well : (r : After PlainFront FrontActed) → (is_front p && is_verb v) ≡ true → ActsWell p v b r → Acts p v b r.answer r.front
   acts_well r e w =
       let q = sym (act-number e) in
       record {

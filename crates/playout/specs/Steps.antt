@@ -17,15 +17,15 @@ use Rattle.plain.specs.Numbers.{verb_of, event_number}
 use Rattle.plain.specs.Plain.{server_of, front_of, plain_front, heartbeat_of, table_of, plain_table, plain_channel, no_channel}
 use Rattle.playout.specs.declared.FrontMade.{FrontMade}
 use Rattle.playout.specs.declared.FrontActed.{FrontActed}
-use Rattle.playout.specs.declared.AfterBegin.{AfterBegin}
-use Rattle.playout.specs.declared.AfterHearing.{AfterHearing}
-use Rattle.playout.specs.declared.AfterTimers.{AfterTimers}
-use Rattle.playout.specs.declared.AfterVerb.{AfterVerb}
+use Rattle.front.specs.declared.After.{After}
 use Rattle.playout.specs.declared.PlainWritten.{PlainWritten}
 use Rattle.playout.specs.declared.TableAdded.{TableAdded}
 use Rattle.playout.specs.declared.ChannelOpened.{ChannelOpened}
 use Rattle.playout.specs.declared.ChannelAnswered.{ChannelAnswered}
 use Rattle.playout.specs.Front.{ill, heard_numbers, timed_numbers, after_verb}
+use Rattle.frame.specs.Answers.{verdict_of, bytes_of}
+use Rattle.playout.specs.declared.FrontHeard.{FrontHeard}
+use Rattle.playout.specs.declared.FrontTimed.{FrontTimed}
 
 -- the front of its numbers, in the order of `front_numbers` in the crate front
 abbrev pub of_numbers : List ℕ → PlainFront
@@ -52,21 +52,21 @@ made_of a = record { number = a.number; front = of_numbers a.values }
 
 -- ---- steps of a front that decodes
 
-pub record BeginsWell (p : PlainFront) (r : AfterBegin) : Type 0 where
+pub record BeginsWell (p : PlainFront) (r : After PlainFront ℕ) : Type 0 where
   pub number : r.answer ≡ choose (goes_on (front_of p)) 0 16
   pub front : r.front ≡ plain_front (choose (goes_on (front_of p)) (risen (front_of p)) (front_of p))
 
-abbrev pub hears_well : PlainFront → PlainHeartbeat → AfterHearing
+abbrev pub hears_well : PlainFront → PlainHeartbeat → After PlainFront FrontHeard
 hears_well p h = let r = hearing (front_of p) (heartbeat_of h) in record { front = plain_front r.front; answer = heard_numbers r.answer }
 
-abbrev pub ticks_well : PlainFront → AfterTimers
+abbrev pub ticks_well : PlainFront → After PlainFront FrontTimed
 ticks_well p = let r = timing (front_of p) in record { front = plain_front r.front; answer = timed_numbers r.answer }
 
 -- the answer of a verb that gets the number n
 abbrev pub acted_as : ℕ → ℕ → ℕ → FrontActed
 acted_as n e r = record { number = n; event = choose (eqb n 0) e 0; role = choose (eqb n 0) r 0 }
 
-pub record ActsWell (p : PlainFront) (v b : ℕ) (r : AfterVerb) : Type 0 where
+pub record ActsWell (p : PlainFront) (v b : ℕ) (r : After PlainFront FrontActed) : Type 0 where
   pub answer : r.answer ≡ acted_as (verb_answer (verb_of v) b (server_of p.server)).number (event_number (happens (verb_of v) b (front_of p))) (role_number (after_verb (verb_of v) b (front_of p)).server.role)
   pub front : r.front ≡ plain_front (after_verb (verb_of v) b (front_of p))
 
@@ -91,7 +91,7 @@ pub record OpensWell (p : PlainTable) (n : ℕ) (r : ChannelOpened) : Type 0 whe
   pub channel : r.channel ≡ choose (eqb (fresh_refusal (table_of p) n) 0) (plain_channel (fresh (table_of p) n)) no_channel
 
 abbrev pub answered : calls.Answer → ChannelAnswered
-answered a = record { number = of_verdict a.verdict; written = a.written; channel = plain_channel (state a.channel) }
+answered a = record { number = of_verdict (verdict_of a.written); written = bytes_of a.written; channel = plain_channel (state a.channel) }
 
 abbrev pub unanswered : PlainChannel → ChannelAnswered
 unanswered p = record { number = ill; written = 0; channel = p }

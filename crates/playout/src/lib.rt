@@ -30,7 +30,7 @@ ghost use Rattle.playout.specs.Laws.{Empties};
 ghost use Rattle.playout.specs.Steps.{made_of, BeginsWell, hears_well, ticks_well, acted_as, ActsWell, written_to, AddsWell, opened_as, OpensWell, answered, unanswered};
 
 use channel::{Answer, Channel};
-use front::Front;
+use front::{After, Front};
 use group::{State, Table};
 use heartbeat::Heartbeat;
 use plain::{PlainChannel, PlainFront, PlainHeartbeat, PlainTable};
@@ -147,31 +147,6 @@ pub struct ChannelAnswered {
     pub channel: PlainChannel,
 }
 
-// A front after a step, and the step's answer.
-#[derive(Clone, Copy)]
-struct AfterBegin {
-    front: PlainFront,
-    answer: u32,
-}
-
-#[derive(Clone, Copy)]
-struct AfterHearing {
-    front: PlainFront,
-    answer: FrontHeard,
-}
-
-#[derive(Clone, Copy)]
-struct AfterTimers {
-    front: PlainFront,
-    answer: FrontTimed,
-}
-
-#[derive(Clone, Copy)]
-struct AfterVerb {
-    front: PlainFront,
-    answer: FrontActed,
-}
-
 // The number of what does not decode.
 const ILL: u32 = 2;
 
@@ -234,29 +209,29 @@ pub fn playout_front_new(identity: u16, priority: u8, period: u32) -> FrontMade
 
 // ---- the steps of a front, by value
 
-fn begins(front: PlainFront) -> AfterBegin
+fn begins(front: PlainFront) -> After<PlainFront, u32>
     ensures { BeginsWell front result }
 {
     let next = plain::front_of(front).begun();
     let verdict = next.answer;
     let moved = next.front;
-    AfterBegin {
+    After {
         front: plain::plain_front(moved),
         answer: plain::verdict_number(verdict),
     }
 }
 
-fn begun(front: PlainFront) -> AfterBegin
+fn begun(front: PlainFront) -> After<PlainFront, u32>
     ensures { Begins front result.answer result.front }
 {
     if plain::is_front(front) {
         begins(front)
     } else {
-        AfterBegin { front, answer: ILL }
+        After { front, answer: ILL }
     }
 }
 
-fn hears(front: PlainFront, heartbeat: PlainHeartbeat) -> AfterHearing
+fn hears(front: PlainFront, heartbeat: PlainHeartbeat) -> After<PlainFront, FrontHeard>
     ensures { result ≡ hears_well front heartbeat }
 {
     let was = plain::front_of(front);
@@ -265,7 +240,7 @@ fn hears(front: PlainFront, heartbeat: PlainHeartbeat) -> AfterHearing
     let event = answer.event;
     let role = answer.role;
     let hearer = next.front;
-    AfterHearing {
+    After {
         front: plain::plain_front(hearer),
         answer: FrontHeard {
             number: 0,
@@ -275,13 +250,13 @@ fn hears(front: PlainFront, heartbeat: PlainHeartbeat) -> AfterHearing
     }
 }
 
-fn heard(front: PlainFront, heartbeat: PlainHeartbeat) -> AfterHearing
+fn heard(front: PlainFront, heartbeat: PlainHeartbeat) -> After<PlainFront, FrontHeard>
     ensures { Hears front heartbeat result.answer result.front }
 {
     if plain::is_front(front) & plain::is_heartbeat(heartbeat) {
         hears(front, heartbeat)
     } else {
-        AfterHearing {
+        After {
             front,
             answer: FrontHeard {
                 number: ILL,
@@ -292,7 +267,7 @@ fn heard(front: PlainFront, heartbeat: PlainHeartbeat) -> AfterHearing
     }
 }
 
-fn ticks(front: PlainFront) -> AfterTimers
+fn ticks(front: PlainFront) -> After<PlainFront, FrontTimed>
     ensures { result ≡ ticks_well front }
 {
     let next = plain::front_of(front).timed();
@@ -302,7 +277,7 @@ fn ticks(front: PlainFront) -> AfterTimers
     let rising = answer.rising;
     let role = answer.role;
     let moved = next.front;
-    AfterTimers {
+    After {
         front: plain::plain_front(moved),
         answer: FrontTimed {
             number: 0,
@@ -314,13 +289,13 @@ fn ticks(front: PlainFront) -> AfterTimers
     }
 }
 
-fn timed(front: PlainFront) -> AfterTimers
+fn timed(front: PlainFront) -> After<PlainFront, FrontTimed>
     ensures { Ticks front result.answer result.front }
 {
     if plain::is_front(front) {
         ticks(front)
     } else {
-        AfterTimers {
+        After {
             front,
             answer: FrontTimed {
                 number: ILL,
@@ -352,7 +327,7 @@ fn acted_as(number: u32, event: u32, role: u32) -> FrontActed
     }
 }
 
-fn acts(front: PlainFront, verb: u32, to: u16) -> AfterVerb
+fn acts(front: PlainFront, verb: u32, to: u16) -> After<PlainFront, FrontActed>
     ensures { ActsWell front verb to result }
 {
     let next = plain::front_of(front).acted(plain::verb_of(verb), to);
@@ -361,7 +336,7 @@ fn acts(front: PlainFront, verb: u32, to: u16) -> AfterVerb
     let event = answer.event;
     let role = answer.role;
     let moved = next.front;
-    AfterVerb {
+    After {
         front: plain::plain_front(moved),
         answer: acted_as(
             plain::verdict_number(verdict),
@@ -371,13 +346,13 @@ fn acts(front: PlainFront, verb: u32, to: u16) -> AfterVerb
     }
 }
 
-fn acted(front: PlainFront, verb: u32, to: u16) -> AfterVerb
+fn acted(front: PlainFront, verb: u32, to: u16) -> After<PlainFront, FrontActed>
     ensures { Acts front verb to result.answer result.front }
 {
     if plain::is_front(front) & plain::is_verb(verb) {
         acts(front, verb, to)
     } else {
-        AfterVerb {
+        After {
             front,
             answer: FrontActed {
                 number: ILL,
@@ -774,13 +749,11 @@ fn channel_from(channel: PlainChannel) -> Channel
 fn answered(answer: Answer) -> ChannelAnswered
     ensures { result ≡ answered answer }
 {
-    let verdict = answer.verdict;
-    let next = answer.channel;
-    let channel = plain::plain_channel(next.state());
+    let put = written_of(answer.written);
     ChannelAnswered {
-        number: plain::verdict_number(verdict),
-        written: answer.written,
-        channel,
+        number: put.number,
+        written: put.written,
+        channel: plain::plain_channel(answer.channel.state()),
     }
 }
 

@@ -1,16 +1,14 @@
 -- What a call answers. Assumes nothing.
-use Rattle.std.specs.Prelude.{Result}
+use Rattle.std.specs.Prelude.{Err}
 use mathlib.Core.Bool.{Bool, true}
-use mathlib.Core.Path.{◌≡◌, refl, sym, ap, ap₂, subst, ◌∙◌}
-use mathlib.Core.List.{List, [], ◌∷◌}
+use mathlib.Core.Path.{◌≡◌, refl, sym, ap, subst, ◌∙◌}
+use mathlib.Core.List.{List}
 use Prim.Native.Nat.{ℕ, ◌≤◌}
 use native.Mathlib.Omega.{arith}
 use lib.ListN.{length}
-use Rattle.lists.specs.Choice.{choose}
 use Rattle.lists.specs.Splice.{splice}
 use Rattle.lists.proofs.Cases.{tested, on, other}
 use Rattle.lists.proofs.Splicing.{splice-none}
-use Rattle.refusal.specs.Answer.{accepted, refused}
 use Rattle.refusal.proofs.Answers.{not-both}
 use Rattle.text.specs.Write.{of_written}
 use Rattle.feeding.specs.Fed.{Fed}
@@ -18,7 +16,7 @@ use Rattle.printer.specs.declared.Ran.{Ran}
 use Rattle.printer.specs.declared.Printed.{Printed}
 use Rattle.feed.specs.declared.Feed.{Feed}
 use Rattle.feed.specs.Answers.{fed_of, Leaves}
-use Rattle.printer.specs.Print.{Print, rests, print}
+use Rattle.printer.specs.Print.{Print, rests, print, short}
 use Rattle.printer.specs.Answers.{Prints, PrintsIn}
 use Rattle.printer.specs.Steps.{Runs, RunsIn}
 use Rattle.printer.proofs.Printing.{stays_within}
@@ -27,10 +25,10 @@ use Rattle.printer.proofs.Leaving.{leaves_none}
 use Rattle.refusal.specs.declared.Refusal.{Refusal}
 
 module _ {f : Fed} {s : List ℕ} {last : Bool} {d : List ℕ} {r : Printed} {f' : Fed} {d' : List ℕ} where
-  answered : {q : Ran} → Runs f s last d q f' d' → of_written r.written ≡ choose q.short (refused 9) (accepted (q.wrote ∷ [])) → r.used ≡ q.used → r.over ≡ f'.over → Prints f s last d r f' d'
+  answered : {q : Ran} → Runs f s last d q f' d' → r.written ≡ q.written → r.used ≡ q.used → r.over ≡ f'.over → Prints f s last d r f' d'
   answered v w u o =
       record {
-        answer = w ∙ ap₂ (λ (b : Bool) (n : ℕ). choose b (refused 9) (accepted (n ∷ []))) v.short v.wrote;
+        answer = ap of_written w ∙ v.answer;
         used = u ∙ v.used;
         over = o ∙ ap (λ (x : Fed). x.over) v.fed;
         fed = v.fed;
@@ -54,18 +52,19 @@ module _ {x : Feed} {l w : List ℕ} {k : List Bool} {s : List ℕ} {last : Bool
   left = subst (λ (n : ℕ). Leaves x w k n all.fed q.feed w' k') v.runs.used (subst (λ (g : Fed). Leaves x w k q.used g q.feed w' k') v.runs.fed v.leaves)
 
   -- 9
-  none_done : q.short ≡ true → (q.feed ≡ x) × (l' ≡ l) × (w' ≡ w) × (k' ≡ k) × (d' ≡ d)
-  none_done b =
-      let is : all ≡ rests f = laws.short f (record { piece = s; last = last; room = length d }) (sym v.runs.short ∙ b) in
+  none_done : (n : Refusal) → q.written ≡ Err n → (q.feed ≡ x) × (l' ≡ l) × (w' ≡ w) × (k' ≡ k) × (d' ≡ d)
+  none_done n e =
+      let b : short f s last (length d) ≡ true = on (tested (short f s last (length d))) (λ t. t) (λ t. not-both (sym (ap of_written e) ∙ v.runs.answer ∙ other _ t)) in
+      let is : all ≡ rests f = laws.short f (record { piece = s; last = last; room = length d }) b in
       let then : Leaves x w k 0 f q.feed w' k' = subst (λ (p : Print). Leaves x w k p.used p.fed q.feed w' k') is left in
       let now : Leaves x w k 0 f x w k = leaves_none l in
-      (then.feed ∙ sym now.feed, v.line ∙ ap (λ (p : Print). p.line l) is, v.same b, then.links ∙ sym now.links, v.runs.out ∙ ap (λ (p : Print). splice d 0 p.lines) is ∙ splice-none d 0)
+      (then.feed ∙ sym now.feed, v.line ∙ ap (λ (p : Print). p.line l) is, v.same n e, then.links ∙ sym now.links, v.runs.out ∙ ap (λ (p : Print). splice d 0 p.lines) is ∙ splice-none d 0)
 
-  pub answered_in : {p : Result ℕ Refusal} {o : Bool} → of_written p ≡ choose q.short (refused 9) (accepted (q.wrote ∷ [])) → o ≡ q.feed.over → PrintsIn x l w k s last d (record { written = p; used = q.used; over = o; feed = q.feed }) l' w' k' d'
-  answered_in {p} {o} a b =
+  pub answered_in : {o : Bool} → o ≡ q.feed.over → PrintsIn x l w k s last d (record { written = q.written; used = q.used; over = o; feed = q.feed }) l' w' k' d'
+  answered_in b =
       record {
-        prints = answered v.runs a refl b;
+        prints = answered v.runs refl refl b;
         leaves = left;
         line = v.line;
-        same = λ n e. on (tested q.short) (λ t. none_done t) (λ t. not-both (sym (ap of_written e) ∙ a ∙ other _ t));
+        same = none_done;
       }

@@ -1,6 +1,5 @@
 -- What turns leave of a feed and of what is lent to it. Assumes nothing.
-use Rattle.std.specs.Prelude.{Result, Ok, Err}
-use mathlib.Core.Bool.{Bool, true, false, not, ◌&&◌}
+use mathlib.Core.Bool.{Bool, true, false}
 use mathlib.Core.Path.{◌≡◌, refl, sym, ap, subst, ◌∙◌}
 use mathlib.Core.List.{List}
 use Prim.Native.Nat.{ℕ, ◌+◌, ◌≤◌}
@@ -10,7 +9,6 @@ use lib.Dec.{eqb}
 use lib.ListN.{length}
 use Rattle.lists.specs.Choice.{choose}
 use Rattle.lists.proofs.Cases.{less, equal, tested, on, clash, chosen, other}
-use Rattle.refusal.specs.declared.Refusal.{Refusal}
 use Rattle.group.specs.declared.State.{State}
 use Rattle.places.specs.Words.{words_of, Canonical}
 use Rattle.feeding.specs.Fed.{Fed}
@@ -19,10 +17,9 @@ use Rattle.feed.specs.declared.Stage.{Stage}
 use Rattle.feed.specs.declared.Stage.TheVariants.{AtPeriod, AtServers, AtEntries, AtClose}
 use Rattle.feed.specs.Answers.{day_of, channel_of, fed_of, unmade, feed_after, words_after, links_after, Leaves}
 use Rattle.feed.proofs.Leaving.{unmade-is, same_parts, passes_same, leaves_passed}
-use Rattle.printer.specs.declared.Put.{Put}
 use Rattle.printer.specs.declared.Turned.{Turned}
 use Rattle.printer.specs.Print.{turn_move}
-use Rattle.printer.specs.Steps.{put_by, Turns, TurnsIn}
+use Rattle.printer.specs.Steps.{Turns, TurnsIn}
 use Rattle.printer.proofs.Turning.{short_none}
 use Rattle.printer.proofs.Later.{Later, later_same, turn-later}
 
@@ -33,11 +30,6 @@ leaves_none l = leaves_passed l passes_same refl
 -- what is known, worked out in another way
 pub leaves_as : {x : Feed} {w : List ℕ} {k : List Bool} {n : ℕ} {f g : Fed} {x' : Feed} {w' : List ℕ} {k' : List Bool} → f ≡ g → Leaves x w k n g x' w' k' → Leaves x w k n f x' w' k'
 leaves_as {x} {w} {k} {n} {f} {g} {x'} {w'} {k'} e q = subst (λ (h : Fed). Leaves x w k n h x' w' k') (sym e) q
-
--- a write that was refused did nothing
-pub short-same : {A : Type 0} (p : Result ℕ Refusal) {l : Put} → l ≡ put_by p → ((n : Refusal) → p ≡ Err n → A) → l.fits ≡ false → A
-short-same (Ok n) e h z = absurd (clash (ap (λ (x : Put). x.fits) e) z)
-short-same (Err k) e h z = h k refl
 
 -- ---- one after the other
 
@@ -112,15 +104,14 @@ module _ {x : Feed} {w : List ℕ} {k : List Bool} {i : ℕ} {y : Feed} (l : Lis
 
 -- ---- turns
 
--- the turns so far: what they left; where nothing was done each number is as it was
-pub record Leaving (x₀ : Feed) (w₀ : List ℕ) (k₀ : List Bool) (i : ℕ) (x : Feed) (l w : List ℕ) (k : List Bool) (first tooShort : Bool) : Type 0 where
+-- the turns so far: what they left; where there was none each number is as it was
+pub record Leaving (x₀ : Feed) (w₀ : List ℕ) (k₀ : List Bool) (i : ℕ) (x : Feed) (l w : List ℕ) (k : List Bool) (first : Bool) : Type 0 where
   pub leaves : Leaves x₀ w₀ k₀ i (fed_of x l w k) x w k
   pub later : x₀.number ≤ x.number
   pub fresh : first ≡ true → w ≡ w₀
-  pub same : tooShort ≡ true → w ≡ w₀
 
-pub leaving_begins : {x : Feed} (l : List ℕ) {w : List ℕ} {k : List Bool} → Leaving x w k 0 x l w k true false
-leaving_begins l = record { leaves = leaves_none l; later = omega arith; fresh = λ e. refl; same = λ e. absurd (clash e refl) }
+pub leaving_begins : {x : Feed} (l : List ℕ) {w : List ℕ} {k : List Bool} → Leaving x w k 0 x l w k true
+leaving_begins l = record { leaves = leaves_none l; later = omega arith; fresh = λ e. refl }
 
 -- where a turn comes to
 turn-comes : {f : Fed} {s : List ℕ} {last : Bool} {d : List ℕ} {r : Turned} {f' : Fed} {d' : List ℕ} → Turns f s last d r f' d' → Later f r.used f'
@@ -130,24 +121,14 @@ turn-comes {f} {s} {last} {d} {r} {f'} {d'} t =
     (on (less (length d) (length m.lines))
     (λ h.
     let no = t.move.not h in
-    rw (no.3, short_none f last (length d) s h) later_same)
-    (λ h. let so = t.move.so h in rw so.3 (turn-later f s last (length d))))
+    rw (no.1, short_none f last (length d) s h) later_same)
+    (λ h. let so = t.move.so h in rw so.1 (turn-later f s last (length d))))
 
 pub leaving_turn :
-    {x₀ : Feed} {w₀ : List ℕ} {k₀ : List Bool} {i : ℕ} {x : Feed} {l w : List ℕ} {k : List Bool} {first tooShort : Bool} {s : List ℕ} {last : Bool} {d : List ℕ} {r : Turned} {l' w' : List ℕ} {k' : List Bool} {d' : List ℕ} →
-    Leaving x₀ w₀ k₀ i x l w k first tooShort → TurnsIn x l w k s last d r l' w' k' d' → Leaving x₀ w₀ k₀ (i + r.used) r.feed l' w' k' false (first && not r.fits)
-leaving_turn {l = l} {first = first} {r = r} v t =
+    {x₀ : Feed} {w₀ : List ℕ} {k₀ : List Bool} {i : ℕ} {x : Feed} {l w : List ℕ} {k : List Bool} {first : Bool} {s : List ℕ} {last : Bool} {d : List ℕ} {r : Turned} {l' w' : List ℕ} {k' : List Bool} {d' : List ℕ} →
+    Leaving x₀ w₀ k₀ i x l w k first → TurnsIn x l w k s last d r l' w' k' d' → Leaving x₀ w₀ k₀ (i + r.used) r.feed l' w' k' false
+leaving_turn {l = l} v t =
     let c = turn-comes t.turns in
     let up = c.number in
     let h = v.later in
-    record {
-      leaves = leaves-then l v.leaves h t.leaves c;
-      later = omega arith;
-      fresh = λ e. absurd (clash e refl);
-      same = λ e. let p = both_so first r.fits e in t.same p.1 ∙ v.fresh p.0;
-    }
-  where
-    both_so : (a b : Bool) → (a && not b) ≡ true → (a ≡ true) × (b ≡ false)
-    both_so true true e = absurd (clash e refl)
-    both_so true false e = (refl, refl)
-    both_so false b e = absurd (clash e refl)
+    record { leaves = leaves-then l v.leaves h t.leaves c; later = omega arith; fresh = λ e. absurd (clash e refl) }

@@ -2,14 +2,11 @@
 // loop over a feed.
 #![tactic(auto)]
 
-ghost use Rattle.std.specs.Prelude.{◌≡◌, [], ◌∷◌};
-ghost use Rattle.lists.specs.Choice.{choose};
-ghost use Rattle.refusal.specs.Answer.{accepted, refused};
-ghost use Rattle.text.specs.Write.{of_written};
+ghost use Rattle.std.specs.Prelude.{◌≡◌};
 ghost use Rattle.printer.specs.Answers.{written_bytes, PrintsIn};
-ghost use Rattle.printer.specs.Steps.{put_by, Ends, TurnsIn, RunsIn};
+ghost use Rattle.printer.specs.Steps.{Steps, Ends, TurnsIn, RunsIn};
 
-use feed::Feed;
+use feed::{Feed, Step};
 use group::Links;
 use places::Packed;
 use refusal::Refusal;
@@ -24,54 +21,38 @@ pub struct Printed {
     pub feed: Feed,
 }
 
-// A turn: whether it did anything, whether its lines fit, and what it took and wrote.
+// A turn: how many bytes of the piece it took, and how many it wrote; none where there was nothing
+// to do, and 9 where the slice is too short for its lines.
 #[derive(Clone, Copy)]
 struct Turned {
-    goes: bool,
-    fits: bool,
-    wrote: usize,
+    written: Result<Option<usize>, Refusal>,
     used: usize,
     feed: Feed,
 }
 
-// Turns: whether the slice is too short for the first, and what they took and wrote.
+// Turns, what they took and wrote; 9 where the slice is too short for the first.
 #[derive(Clone, Copy)]
 struct Ran {
-    short: bool,
-    wrote: usize,
+    written: Result<usize, Refusal>,
     used: usize,
     feed: Feed,
-}
-
-// Whether lines fit, and how many bytes were written.
-#[derive(Clone, Copy)]
-struct Put {
-    fits: bool,
-    bytes: usize,
-}
-
-fn put_by(written: Result<usize, Refusal>) -> Put
-    ensures { result ≡ put_by written }
-{
-    match written {
-        Ok(n) => Put {
-            fits: true,
-            bytes: n,
-        },
-        Err(_) => Put {
-            fits: false,
-            bytes: 0,
-        },
-    }
 }
 
 // How many bytes were written; 0 where that was refused.
 pub fn bytes(written: Result<usize, Refusal>) -> usize
     ensures { result ≡ written_bytes written }
 {
-    match written {
-        Ok(n) => n,
-        Err(_) => 0,
+    written.unwrap_or(0)
+}
+
+// A turn that was a step.
+fn stepped(step: Step) -> Turned
+    ensures { Steps step result }
+{
+    Turned {
+        written: step.written.map(Some),
+        used: 0,
+        feed: step.feed,
     }
 }
 
@@ -81,24 +62,13 @@ fn end(feed: Feed, line: &[u8; Feed::LINE], last: bool, out: &mut [u8]) -> Turne
 {
     if !last | feed.over() {
         return Turned {
-            goes: false,
-            fits: true,
-            wrote: 0,
+            written: Ok(None),
             used: 0,
             feed,
         };
     }
     let step = feed.finish(line, out);
-    let written = step.written;
-    let next = step.feed;
-    let put = put_by(written);
-    Turned {
-        goes: put.fits,
-        fits: put.fits,
-        wrote: put.bytes,
-        used: 0,
-        feed: next,
-    }
+    stepped(step)
 }
 
 // Steps where a whole line is to be done, else bytes of the piece, else the end of the input.
@@ -115,28 +85,17 @@ fn turn(
 {
     if feed.waits(line) {
         let step = feed.steps(line, words, whole, out);
-        let written = step.written;
-        let next = step.feed;
-        let put = put_by(written);
-        return Turned {
-            goes: put.fits,
-            fits: put.fits,
-            wrote: put.bytes,
-            used: 0,
-            feed: next,
-        };
+        return stepped(step);
     }
-    if piece.len() == 0 {
+    if piece.is_empty() {
         return end(feed, line, last, out);
     }
     let taken = feed.take(line, piece);
-    let next = taken.feed;
+    let wrote = (!feed.over()).then_some(0);
     Turned {
-        goes: !feed.over(),
-        fits: true,
-        wrote: 0,
+        written: Ok(wrote),
         used: taken.used,
-        feed: next,
+        feed: taken.feed,
     }
 }
 
@@ -155,10 +114,8 @@ fn run(
     let mut now = feed;
     let mut used: usize = 0;
     let mut at: usize = 0;
-    let mut goes = true;
     let mut first = true;
-    let mut short = false;
-    while goes {
+    loop {
         let turned = turn(
             now,
             line,
@@ -168,30 +125,28 @@ fn run(
             last,
             &mut out[at..],
         );
-        let next = turned.feed;
-        now = next;
+        now = turned.feed;
         used += turned.used;
-        at += turned.wrote;
-        goes = turned.goes;
-        short = first & !turned.fits;
+        match turned.written {
+            Ok(Some(n)) => at += n,
+            Ok(None) => return Ran {
+                written: Ok(at),
+                used,
+                feed: now,
+            },
+            Err(k) if first => return Ran {
+                written: Err(k),
+                used,
+                feed: now,
+            },
+            Err(_) => return Ran {
+                written: Ok(at),
+                used,
+                feed: now,
+            },
+        }
         first = false;
     }
-    Ran {
-        short,
-        wrote: at,
-        used,
-        feed: now,
-    }
-}
-
-// How many bytes were written; 9.
-fn answer(short: bool, wrote: usize) -> Result<usize, Refusal>
-    ensures { of_written result ≡ choose short (refused 9) (accepted (wrote ∷ [])) }
-{
-    if short {
-        return Err(Refusal::Short);
-    }
-    Ok(wrote)
 }
 
 // As much of the sheet as is known and fits, at the slice's start: what the pieces so far and this
@@ -208,12 +163,10 @@ pub fn print(
     ensures { PrintsIn feed line.old words.old whole.old piece.now last out.old result line.new words.new whole.new out.new }
 {
     let ran = run(feed, line, words, whole, piece, last, out);
-    let next = ran.feed;
-    let written = answer(ran.short, ran.wrote);
     Printed {
-        written,
+        written: ran.written,
         used: ran.used,
-        over: next.over(),
-        feed: next,
+        over: ran.feed.over(),
+        feed: ran.feed,
     }
 }

@@ -1,5 +1,6 @@
 -- The check, a byte a turn. Assumes nothing.
-use Rattle.std.proofs.Common.{◌≡◌, ℕ, suc, ◌+◌, ◌*◌, ◌/◌, ◌%◌, ◌^◌, ◌<◌, ◌≤◌, List, length, get_or, drop, sym, refl, ap, ◌∙◌, add-one, arith, drop_of_length-le, drop-cons}
+use Rattle.std.proofs.Common.{◌≡◌, ℕ, ◌+◌, ◌*◌, ◌/◌, ◌%◌, ◌^◌, List, [], ◌∷◌, sym, refl, ap, ◌∙◌, arith}
+use Rattle.std.specs.List.{fold}
 use native.Mathlib.Nat.{add-mod-mod, mul-add-mod_self_left}
 use Rattle.vectors.specs.Check.{stepped, check_from, check_of}
 
@@ -15,20 +16,11 @@ parts x {m} {r} e f =
     let whole : x * 1099511628211 ≡ M * over + (top + rest) = omega arith in
     f ∙ ap (λ (n : ℕ). (top + n) % M) e ∙ add-mod-mod top rest M ∙ sym (ap (λ (n : ℕ). n % M) whole ∙ mul-add-mod_self_left M over (top + rest))
 
--- k is the check of the first i bytes
-pub record Checking (s : List ℕ) (k i : ℕ) : Type 0 where
-  pub within : i ≤ length s
-  pub so_far : check_of s ≡ check_from k (drop i s)
+-- the check is a fold
+from : (k : ℕ) (s : List ℕ) → check_from k s ≡ fold stepped k s
+from k [] = refl
+from k (x ∷ s) = from (stepped k x) s
 
-pub begin : {s : List ℕ} → Checking s 14695981039346656037 0
+pub folded : (s : List ℕ) → check_of s ≡ fold stepped 14695981039346656037 s
 unfolding check_of
-begin = record { within = omega arith; so_far = refl }
-
-module _ {s : List ℕ} {k i : ℕ} (v : Checking s k i) where
-  pub turn : {m : ℕ} → i < length s → m ≡ stepped k (get_or s i 0) → Checking s m (i + 1)
-  turn {m} h e =
-      rw add-one
-      (record { within = omega arith; so_far = v.so_far ∙ ap (check_from k) (drop-cons s i 0 h) ∙ ap (λ (n : ℕ). check_from n (drop (suc i) s)) (sym e) })
-
-  pub end : length s ≤ i → k ≡ check_of s
-  end h = sym (v.so_far ∙ ap (check_from k) (drop_of_length-le s h))
+folded s = from 14695981039346656037 s

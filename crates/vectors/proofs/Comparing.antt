@@ -9,35 +9,35 @@ use Rattle.text.specs.Write.{of_written, writing}
 use Rattle.text.specs.Steps.{Pieces}
 use Rattle.day.specs.Sheet.{sheet}
 use Rattle.vectors.specs.Check.{check_of}
-use Rattle.vectors.specs.declared.Found.{Found}
-use Rattle.vectors.specs.declared.Found.TheVariants.{Agrees, Length, Bytes, Check, TooLong}
+use Rattle.vectors.specs.Found.{Found}
+use Rattle.vectors.specs.declared.Differs.TheVariants.{Length, Bytes, Check, TooLong}
 use Rattle.vectors.specs.declared.Line.{Line}
 use Rattle.vectors.specs.Days.{compared, sheet_compared, part, day_of, day_at, shown_at, found_at}
 
-not_so : (t : Bool) → not t ≡ true → t ≡ false
+pub not_so : (t : Bool) → not t ≡ true → t ≡ false
 not_so true e = sym e
 not_so false e = refl
 
-so : (t : Bool) → not t ≡ false → t ≡ true
+pub so : (t : Bool) → not t ≡ false → t ≡ true
 so true e = refl
 so false e = sym e
 
 module _ (s : List ℕ) (n : ℕ) (shown : List ℕ) (k : ℕ) where
-  pub length_differs : (length s ≡ n → ⊥) → Length ≡ compared s n shown k
+  pub length_differs : (length s ≡ n → ⊥) → Err Length ≡ compared s n shown k
   unfolding compared
   length_differs h = sym (other _ (ne_eqb _ _ h))
 
   module _ (l : length s ≡ n) {t : Bool} (e : t ≡ same s shown) where
-    pub bytes-differ : not (eqb (length shown) 0 || t) ≡ true → Bytes ≡ compared s n shown k
+    pub bytes-differ : not (eqb (length shown) 0 || t) ≡ true → Err Bytes ≡ compared s n shown k
     unfolding compared
     bytes-differ h = sym (chosen _ (eq-eqb _ _ l) ∙ other _ (not_so _ (rw e at h)))
 
     module _ (h : not (eqb (length shown) 0 || t) ≡ false) {m : ℕ} (f : m ≡ check_of s) where
-      pub all_same : m ≡ k → Agrees ≡ compared s n shown k
+      pub all_same : m ≡ k → Ok tt ≡ compared s n shown k
       unfolding compared
       all_same g = sym (chosen _ (eq-eqb _ _ l) ∙ chosen _ (so _ (rw e at h)) ∙ chosen _ (eq-eqb _ _ (sym f ∙ g)))
 
-      pub check_differs : (m ≡ k → ⊥) → Check ≡ compared s n shown k
+      pub check_differs : (m ≡ k → ⊥) → Err Check ≡ compared s n shown k
       unfolding compared
       check_differs g = sym (chosen _ (eq-eqb _ _ l) ∙ chosen _ (so _ (rw e at h)) ∙ other _ (ne_eqb _ _ (λ x. g (f ∙ x))))
 
@@ -63,7 +63,7 @@ module _ {d : List ℕ} (day : List ℕ) {r : Result ℕ Refusal} {d' : List ℕ
   unfolding sheet_compared
   sheet-there m e f = f ∙ ap (λ (s : List ℕ). compared s n shown k) (front v m e) ∙ sym (chosen _ (fitted v m e).0)
 
-  pub no_room : (j : Refusal) → r ≡ Err j → Length ≡ sheet_compared d day n shown k
+  pub no_room : (j : Refusal) → r ≡ Err j → Err Length ≡ sheet_compared d day n shown k
   unfolding sheet_compared
   no_room j e = sym (other _ (unfitted v j e))
 
@@ -83,6 +83,6 @@ module _ (s : List ℕ) (l : Line) {d : List ℕ} {r : Result ℕ Refusal} {d' :
       ∙ ap₂ (λ (day x : List ℕ). sheet_compared o day l.sheet x l.check) (front v m e) g
       ∙ sym (chosen _ (fitted v m e).0)
 
-  pub no_day : (j : Refusal) → r ≡ Err j → TooLong ≡ found_at s l d o
+  pub no_day : (j : Refusal) → r ≡ Err j → Err TooLong ≡ found_at s l d o
   unfolding found_at
   no_day j e = sym (other _ (unfitted v j e))

@@ -1,16 +1,18 @@
 -- What is found of pairs, one after the other. Assumes nothing.
-use Rattle.std.proofs.Common.{◌≡◌, ℕ, zero, suc, ◌+◌, ◌-◌, ◌≤◌, true, false, ◌&&◌, ltb, leb, List, length, sym, refl, ap, ◌∙◌, ap₂, arith, ltb-false, eq-eqb, ne_eqb, leb-true, Result, Ok, Err, IfOk}
-use Rattle.lists.proofs.Cases.{tested, on, chosen, other, snd_true}
+use Rattle.std.proofs.Common.{◌≡◌, ℕ, zero, suc, ◌+◌, ◌-◌, ◌<◌, ◌≤◌, true, false, leb, List, length, sym, refl, ap, ◌∙◌, ap₂, arith, eq-eqb, ne_eqb, leb-true, le-leb, not, Result, Ok, Err, IfOk, Option, Some, None}
+use borrow.Author.Tests.{lt-leb}
+use Rattle.lists.proofs.Cases.{tested, on, chosen, other}
 use Rattle.departure.specs.declared.Departure.{Departure}
 use Rattle.departure.specs.Departure.{line_number, judged}
 use Rattle.vectors.specs.declared.Pair.{Pair}
 use Rattle.vectors.specs.declared.Tally.{Tally}
-use Rattle.vectors.specs.declared.Found.{Found}
-use Rattle.vectors.specs.declared.Found.TheVariants.{Agrees, Answer}
+use Rattle.vectors.specs.Found.{Found}
+use Rattle.vectors.specs.declared.Differs.TheVariants.{Answer}
 use Rattle.vectors.specs.Days.{part}
 use Rattle.vectors.specs.Tally.{beginning, counted, stopped, Counted}
 use Rattle.vectors.specs.Pairs.{pair_at, answer_to, pair_found, with_pair, next_pair, pairs_from}
-use Rattle.vectors.proofs.Tallying.{begun, counts, stops, more}
+use Rattle.vectors.proofs.Comparing.{not_so, so}
+use Rattle.vectors.proofs.Tallying.{begun, counts, stops}
 
 module _
     (s : List ℕ) (p : Pair) {d g : List ℕ} (x : d ≡ part s p.at p.day) (y : g ≡ part s (p.at + p.day) p.sheet)
@@ -18,11 +20,11 @@ module _
   answered : m ≡ answer_to s p
   answered = e ∙ ap line_number (j ∙ ap₂ judged x y)
 
-  pub pair_agrees : m ≡ p.answer → Agrees ≡ pair_found s p
+  pub pair_agrees : m ≡ p.answer → Ok tt ≡ pair_found s p
   unfolding pair_found
   pair_agrees h = sym (chosen _ (eq-eqb _ _ (sym answered ∙ h)))
 
-  pub pair_differs : (m ≡ p.answer → ⊥) → Answer ≡ pair_found s p
+  pub pair_differs : (m ≡ p.answer → ⊥) → Err Answer ≡ pair_found s p
   unfolding pair_found
   pair_differs h = sym (other _ (ne_eqb _ _ (λ z. h (answered ∙ z))))
 
@@ -32,21 +34,26 @@ if_ok (Ok t) f h = f t h
 if_ok (Err e) f h = h
 
 -- a pair more
-module _ (s : List ℕ) (t : Tally) {p : Pair} (e : p ≡ pair_at s t.at) where
-  pub with_pair_lem :
-      (p.good && leb p.end (length s)) ≡ true → {f : Found} {q : Tally} → f ≡ pair_found s p → q ≡ counted t f p.end 0 → q ≡ next_pair s t
+module _ (s : List ℕ) (t : Tally) where
+  pub with_whole :
+      {p : Pair} → Some p ≡ pair_at s t.at → p.end ≤ length s → {f : Found} {q : Tally} → f ≡ pair_found s p → q ≡ counted t f p.end 0 → q ≡ next_pair s t
   unfolding with_pair
-  with_pair_lem h g r = r ∙ ap (λ (f : Found). counted t f p.end 0) g ∙ sym (chosen _ h) ∙ ap (with_pair s t) e
+  with_whole {p} e h g r = r ∙ ap (λ (f : Found). counted t f p.end 0) g ∙ sym (chosen _ (le-leb _ _ h)) ∙ ap (with_pair s t) e
 
-  pub no_pair : (p.good && leb p.end (length s)) ≡ false → {q : Tally} → q ≡ stopped t → q ≡ next_pair s t
+  pub too_short : {p : Pair} → Some p ≡ pair_at s t.at → length s < p.end → {q : Tally} → q ≡ stopped t → q ≡ next_pair s t
   unfolding with_pair
-  no_pair h r = r ∙ sym (other _ h) ∙ ap (with_pair s t) e
+  too_short e h r = r ∙ sym (other _ (lt-leb _ _ h)) ∙ ap (with_pair s t) e
 
-next-counts : (s : List ℕ) {k : ℕ} (t : Tally) (p : Pair) → Counted (length s) k t → Counted (length s) (k + 1) (with_pair s t p)
+  pub none_there : None ≡ pair_at s t.at → {q : Tally} → q ≡ stopped t → q ≡ next_pair s t
+  unfolding with_pair
+  none_there e r = r ∙ ap (with_pair s t) e
+
+next-counts : (s : List ℕ) {k : ℕ} (t : Tally) (p : Option Pair) → Counted (length s) k t → Counted (length s) (k + 1) (with_pair s t p)
 unfolding with_pair
-next-counts s t p v =
-    on (tested (p.good && leb p.end (length s)))
-    (λ h. counts v (pair_found s p) (chosen _ h) (leb-true p.end (length s) (snd_true p.good (leb p.end (length s)) h)) (omega arith))
+next-counts s t None v = stops v refl
+next-counts s t (Some p) v =
+    on (tested (leb p.end (length s)))
+    (λ h. counts v (pair_found s p) (chosen _ h) (leb-true p.end (length s) h) (omega arith))
     (λ h. stops v (other _ h))
 
 -- ---- the loop
@@ -71,18 +78,19 @@ begin {s} {at} {n} e h =
     record { within = begun e h; so_far = rw (e, all) refl }
 
 module _ {s : List ℕ} {t₀ : Tally} {n k : ℕ} {t : Tally} (v : Pairing s t₀ n k t) where
-  pub turn : (ltb k n && t.good) ≡ true → {q : Tally} → q ≡ next_pair s t → Pairing s t₀ n (k + 1) q
-  turn h e =
-      let left : n - k ≡ suc (n - (k + 1)) = omega (arith, more k n t.good h) in
+  pub turn : k < n → not t.good ≡ false → {q : Tally} → q ≡ next_pair s t → Pairing s t₀ n (k + 1) q
+  turn h g e =
+      let left : n - k ≡ suc (n - (k + 1)) = omega arith in
       rw e
       (record {
         within = next-counts s t (pair_at s t.at) v.within;
-        so_far = v.so_far ∙ ap (λ (m : ℕ). pairs_from m s t) left ∙ one_more_lem (n - (k + 1)) s t (snd_true (ltb k n) t.good h);
+        so_far = v.so_far ∙ ap (λ (m : ℕ). pairs_from m s t) left ∙ one_more_lem (n - (k + 1)) s t (so t.good g);
       })
 
-  pub end : (ltb k n && t.good) ≡ false → t ≡ pairs_from n s t₀
+  -- after the last, or where one was not well written
+  pub end : n ≤ k → t ≡ pairs_from n s t₀
   unfolding pairs_from
-  end h =
-      sym
-      (v.so_far
-      ∙ on (tested (ltb k n)) (λ e. no_more (n - k) s t (rw e at h)) (λ e. let none : n - k ≡ 0 = omega (arith, ltb-false k n e) in rw none refl))
+  end h = let none : n - k ≡ 0 = omega arith in sym (v.so_far ∙ rw none refl)
+
+  pub halted : not t.good ≡ true → t ≡ pairs_from n s t₀
+  halted h = sym (v.so_far ∙ no_more (n - k) s t (not_so t.good h))

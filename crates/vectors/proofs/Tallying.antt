@@ -1,18 +1,12 @@
 -- Days or pairs, counted. Assumes nothing.
-use Rattle.std.proofs.Common.{◌≡◌, ℕ, ◌+◌, ◌-◌, ◌^◌, ◌<◌, ◌≤◌, Bool, true, ◌&&◌, ltb, arith, ltb-true}
-use Rattle.lists.proofs.Cases.{fst_true}
-use Rattle.vectors.specs.declared.Found.{Found}
-use Rattle.vectors.specs.declared.Found.TheVariants.{Agrees, Length, Bytes, Check, TooLong, Answer}
+use Rattle.std.proofs.Common.{◌≡◌, ℕ, ◌+◌, ◌^◌, ◌<◌, ◌≤◌, arith, Ok, Err}
+use Rattle.vectors.specs.Found.{Found}
 use Rattle.vectors.specs.declared.Tally.{Tally}
 use Rattle.vectors.specs.Tally.{agreeing, beginning, counted, stopped, Counted}
 
 agree-small : (f : Found) → agreeing f ≤ 1
-agree-small Agrees = omega arith
-agree-small Length = omega arith
-agree-small Bytes = omega arith
-agree-small Check = omega arith
-agree-small TooLong = omega arith
-agree-small Answer = omega arith
+agree-small (Ok _) = omega arith
+agree-small (Err _) = omega arith
 
 -- one more fits
 pub told : (f : Found) {a r : ℕ} → r ≡ agreeing f → a < 2097152 → a + r < 2 ^ 64
@@ -32,17 +26,3 @@ module _ {n k : ℕ} {t : Tally} (v : Counted n k t) where
 
   pub stops : {q : Tally} → q ≡ stopped t → Counted n (k + 1) q
   stops e = rw e (record { read = v.read; agree = omega (arith, v.agree); repeated = omega (arith, v.repeated) })
-
--- a turn of the loop
-module _ (k n : ℕ) (t : Bool) (e : (ltb k n && t) ≡ true) where
-  pub more : k < n
-  more = ltb-true k n (fst_true (ltb k n) t e)
-
-  pub at_most : n ≤ 2097152 → k < 2097152
-  at_most h = omega (arith, more)
-
-  pub next_fits : n ≤ 2097152 → k + 1 < 2 ^ 64
-  next_fits h = omega (arith, more)
-
-  pub fewer : n - (k + 1) < n - k
-  fewer = omega (arith, more)

@@ -1,3 +1,4 @@
+pub mod Found
 pub mod Check
 pub mod Days
 pub mod Tally

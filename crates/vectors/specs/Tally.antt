@@ -1,17 +1,12 @@
 -- How many agree, of days or of pairs.
-use Rattle.std.specs.Prelude.{ℕ, ◌+◌, ◌≤◌, true, false}
-use Rattle.vectors.specs.declared.Found.{Found}
-use Rattle.vectors.specs.declared.Found.TheVariants.{Agrees, Length, Bytes, Check, TooLong, Answer}
+use Rattle.std.specs.Prelude.{ℕ, ◌+◌, ◌≤◌, true, false, Ok, Err}
+use Rattle.vectors.specs.Found.{Found}
 use Rattle.vectors.specs.declared.Tally.{Tally}
 
 -- 1 for one that agrees
 abbrev pub agreeing : Found → ℕ
-agreeing Agrees = 1
-agreeing Length = 0
-agreeing Bytes = 0
-agreeing Check = 0
-agreeing TooLong = 0
-agreeing Answer = 0
+agreeing (Ok _) = 1
+agreeing (Err _) = 0
 
 abbrev pub beginning : ℕ → Tally
 beginning at = record { at = at; agree = 0; repeated = 0; good = true }

@@ -16,89 +16,50 @@
 // many agree.
 #![tactic(auto)]
 
-ghost use Rattle.std.specs.Prelude.{◌≡◌, ◌+◌, ◌*◌, ◌%◌, ◌^◌, ◌<◌, ◌≤◌, length, IfOk};
-ghost use Rattle.std.specs.Io.{ReadsAtMost};
+ghost use Rattle.std.specs.Prelude.{◌≡◌, ◌+◌, ◌*◌, ◌%◌, ◌^◌, ◌<◌, ◌≤◌, length, IfOk, IfSome};
 ghost use Rattle.text.specs.Steps.{Pieces};
 ghost use Rattle.vectors.specs.Check.{stepped, check_of};
-ghost use Rattle.vectors.specs.Days.{start_at, with_field, next_number, line_at, day_of, compared, sheet_compared, part, found_at};
+ghost use Rattle.vectors.specs.Days.{next_number, line_at, day_of, compared, sheet_compared, part, found_at};
 ghost use Rattle.vectors.specs.Tally.{agreeing, Counted, beginning, counted, stopped};
 ghost use Rattle.vectors.specs.Pairs.{pair_at, pair_found, next_pair, pairs_from};
 
 use refusal::Refusal;
-use std::io::Read;
+use std::io;
 use std::rt::Files;
-use std::{fs, io, str};
 
 // ---- numbers
 
-// A number of the file, the place after it and what ends it, and whether it and those before it are
-// well written.
+// A number of the file, and the place after it and what ends it.
 #[derive(Clone, Copy)]
 struct Number {
     n: u64,
     at: usize,
-    good: bool,
 }
 
 impl Number {
     // No number but a check is greater.
     const MOST: u64 = 2097152;
 
-    // Before the first number, which is at the place `at`.
-    fn start(at: usize) -> Number
-        ensures value { result ≡ start_at at }
-        ensures at_value { result.at ≡ at }
+    // The number at the place `at`, which the byte `stop` ends.
+    fn read(file: &[u8], at: usize, stop: u8, greatest: u64) -> Option<Number>
+        requires { at ≤ length file.now }
+        ensures value { result ≡ next_number at file.now stop greatest }
+        ensures n_le_greatest { IfSome result (λ p. (p.n ≤ greatest) × (p.at ≤ length file.now)) }
     {
-        Number {
-            n: 0,
-            at,
-            good: true,
+        let rest = &file[at..];
+        let end = text::find(rest, stop);
+        if end >= rest.len() {
+            return None;
         }
-    }
-
-    // The number that a field writes.
-    fn with_field(self, field: &[u8], at: usize, greatest: u64) -> Number
-        ensures value { result ≡ with_field self field.now at greatest }
-        ensures n_le_greatest { result.n ≤ greatest }
-    {
-        match text::read_number(field, 0, greatest) {
-            Ok(n) => Number {
-                n,
-                at,
-                good: self.good,
-            },
-            Err(_) => Number {
-                n: 0,
-                at,
-                good: false,
-            },
-        }
-    }
-
-    // The next number, which the byte `stop` ends.
-    fn next(self, file: &[u8], stop: u8, greatest: u64) -> Number
-        requires { self.at ≤ length file.now }
-        ensures value { result ≡ next_number self file.now stop greatest }
-        ensures n_le_greatest { (result.n ≤ greatest) × (result.at ≤ length file.now) }
-    {
-        let from = self.at;
-        let start = 0;
-        let rest = &file[from..];
-        let n = text::find(rest, stop);
-        if n < rest.len() {
-            self.with_field(&rest[start..n], from + n + 1, greatest)
-        } else {
-            Number {
-                n: 0,
-                at: from,
-                good: false,
-            }
-        }
+        let n = asked::number(&rest[..end], greatest)?;
+        Some(Number {
+            n,
+            at: at + end + 1,
+        })
     }
 }
 
-// The numbers of a day, the places after its line and after its bytes, and whether all the numbers
-// are well written.
+// The numbers of a day, and the places after its line and after its bytes.
 #[derive(Clone, Copy)]
 struct Line {
     head: usize,
@@ -110,23 +71,22 @@ struct Line {
     check: u64,
     at: usize,
     end: usize,
-    good: bool,
 }
 
 impl Line {
-    fn read(file: &[u8], at: usize) -> Line
+    fn read(file: &[u8], at: usize) -> Option<Line>
         requires { (at ≤ length file.now) × (length file.now ≤ 1703936) }
-        ensures { result ≡ line_at file.now at }
+        ensures value { result ≡ line_at file.now at }
+        ensures ends { IfSome result (λ l. l.end ≡ l.at + l.head + l.body + l.tail + l.shown) }
     {
-        let start = Number::start(at);
-        let head = start.next(file, b'\t', Number::MOST);
-        let times = head.next(file, b'\t', Number::MOST);
-        let body = times.next(file, b'\t', Number::MOST);
-        let tail = body.next(file, b'\t', Number::MOST);
-        let sheet = tail.next(file, b'\t', Number::MOST);
-        let shown = sheet.next(file, b'\t', Number::MOST);
-        let check = shown.next(file, b'\n', u64::MAX);
-        Line {
+        let head = Number::read(file, at, b'\t', Number::MOST)?;
+        let times = Number::read(file, head.at, b'\t', Number::MOST)?;
+        let body = Number::read(file, times.at, b'\t', Number::MOST)?;
+        let tail = Number::read(file, body.at, b'\t', Number::MOST)?;
+        let sheet = Number::read(file, tail.at, b'\t', Number::MOST)?;
+        let shown = Number::read(file, sheet.at, b'\t', Number::MOST)?;
+        let check = Number::read(file, shown.at, b'\n', u64::MAX)?;
+        Some(Line {
             head: head.n as usize,
             times: times.n,
             body: body.n as usize,
@@ -136,13 +96,11 @@ impl Line {
             check: check.n,
             at: check.at,
             end: check.at + head.n as usize + body.n as usize + tail.n as usize + shown.n as usize,
-            good: check.good,
-        }
+        })
     }
 }
 
-// The numbers of a pair, the places after its line and after its bytes, and whether all the numbers
-// are well written.
+// The numbers of a pair, and the places after its line and after its bytes.
 #[derive(Clone, Copy)]
 struct Pair {
     day: usize,
@@ -150,26 +108,24 @@ struct Pair {
     answer: u64,
     at: usize,
     end: usize,
-    good: bool,
 }
 
 impl Pair {
-    fn read(file: &[u8], at: usize) -> Pair
+    fn read(file: &[u8], at: usize) -> Option<Pair>
         requires { (at ≤ length file.now) × (length file.now ≤ 1703936) }
-        ensures { result ≡ pair_at file.now at }
+        ensures value { result ≡ pair_at file.now at }
+        ensures ends { IfSome result (λ p. p.end ≡ p.at + p.day + p.sheet) }
     {
-        let start = Number::start(at);
-        let day = start.next(file, b'\t', Number::MOST);
-        let sheet = day.next(file, b'\t', Number::MOST);
-        let answer = sheet.next(file, b'\n', Number::MOST);
-        Pair {
+        let day = Number::read(file, at, b'\t', Number::MOST)?;
+        let sheet = Number::read(file, day.at, b'\t', Number::MOST)?;
+        let answer = Number::read(file, sheet.at, b'\n', Number::MOST)?;
+        Some(Pair {
             day: day.n as usize,
             sheet: sheet.n as usize,
             answer: answer.n,
             at: answer.at,
             end: answer.at + day.n as usize + sheet.n as usize,
-            good: answer.good,
-        }
+        })
     }
 }
 
@@ -189,19 +145,13 @@ fn product(x: u64) -> u64
 fn step(check: u64, x: u8) -> u64
     ensures { result ≡ stepped check x }
 {
-    product(check ^ (x as u64))
+    product(check ^ u64::from(x))
 }
 
 fn check(s: &[u8]) -> u64
     ensures { result ≡ check_of s.now }
 {
-    let mut now = 14695981039346656037;
-    let mut i = 0;
-    while i < s.len() {
-        now = step(now, s[i]);
-        i += 1;
-    }
-    now
+    s.iter().fold(14695981039346656037, |now, x| step(now, *x))
 }
 
 // ---- a day
@@ -223,10 +173,9 @@ fn build(
     text::write_bytes(day, at, tail)
 }
 
-// What is found of a day or a pair: what differs first, or that the day is too long to be built.
+// What differs first of a day or a pair, or that the day is too long to be built.
 #[derive(Clone, Copy)]
-enum Found {
-    Agrees,
+enum Differs {
     Length,
     Bytes,
     Check,
@@ -234,31 +183,49 @@ enum Found {
     Answer,
 }
 
+impl Differs {
+    fn words(self) -> &'static str {
+        match self {
+            Differs::Length => "length",
+            Differs::Bytes => "bytes",
+            Differs::Check => "check",
+            Differs::TooLong => "too long",
+            Differs::Answer => "answer",
+        }
+    }
+}
+
 // A sheet against what the file says of it.
-fn compare(sheet: &[u8], long: usize, shown: &[u8], number: u64) -> Found
+fn compare(sheet: &[u8], long: usize, shown: &[u8], number: u64) -> Result<(), Differs>
     ensures { result ≡ compared sheet.now long shown.now number }
 {
     if sheet.len() != long {
-        return Found::Length;
+        return Err(Differs::Length);
     }
     if !((shown.len() == 0) | text::same(sheet, shown)) {
-        return Found::Bytes;
+        return Err(Differs::Bytes);
     }
     if check(sheet) == number {
-        Found::Agrees
+        Ok(())
     } else {
-        Found::Check
+        Err(Differs::Check)
     }
 }
 
 // The engine's sheet of a day against what the file says. One for which there is no room counts as
 // one of another length.
-fn compare_sheet(day: &[u8], long: usize, shown: &[u8], number: u64, out: &mut [u8]) -> Found
+fn compare_sheet(
+    day: &[u8],
+    long: usize,
+    shown: &[u8],
+    number: u64,
+    out: &mut [u8],
+) -> Result<(), Differs>
     ensures { result ≡ sheet_compared out.old day.now long shown.now number }
 {
     match daysheet::sheet(day, out) {
         Ok(n) => compare(&out[..n], long, shown, number),
-        Err(_) => Found::Length,
+        Err(_) => Err(Differs::Length),
     }
 }
 
@@ -272,7 +239,7 @@ fn part(file: &[u8], at: usize, n: usize) -> &[u8]
 }
 
 // A day of the file.
-fn one(file: &[u8], line: Line, day: &mut [u8], out: &mut [u8]) -> Found
+fn one(file: &[u8], line: Line, day: &mut [u8], out: &mut [u8]) -> Result<(), Differs>
     requires { (line.at + line.head + line.body + line.tail + line.shown ≤ length file.now) × (length file.now ≤ 1703936) }
     ensures { result ≡ found_at file.now line day.old out.old }
 {
@@ -295,14 +262,14 @@ fn one(file: &[u8], line: Line, day: &mut [u8], out: &mut [u8]) -> Found
             line.check,
             out,
         ),
-        Err(_) => Found::TooLong,
+        Err(_) => Err(Differs::TooLong),
     }
 }
 
 // ---- a pair
 
 // A pair of the file.
-fn one_pair(file: &[u8], pair: Pair) -> Found
+fn one_pair(file: &[u8], pair: Pair) -> Result<(), Differs>
     requires { (pair.at + pair.day + pair.sheet ≤ length file.now) × (length file.now ≤ 1703936) }
     ensures { result ≡ pair_found file.now pair }
 {
@@ -310,36 +277,29 @@ fn one_pair(file: &[u8], pair: Pair) -> Found
     let sheet = at + pair.day;
     let found = dayjudge::departure(part(file, at, pair.day), part(file, sheet, pair.sheet));
     if found.number() == pair.answer {
-        Found::Agrees
+        Ok(())
     } else {
-        Found::Answer
+        Err(Differs::Answer)
     }
 }
 
 // ---- what is said
 
 // Says something of the k-th day or pair.
-fn say(rt: &impl Print, noun: &[u8], k: u64, what: &[u8]) -> io::Result<u64>
+fn say(rt: &impl Print, noun: &str, k: u64, what: &str) -> io::Result<u64>
     ensures { IfOk result (λ n. n ≡ 0) }
 {
-    rt.write_all(noun)?;
-    rt.write_all(b" ")?;
-    rt.print(k)?;
-    rt.write_all(what)?;
+    println!(rt; "{noun} {k}: {what}")?;
     Ok(0)
 }
 
 // Says what differs in the k-th; 1 where it agrees.
-fn tell(rt: &impl Print, noun: &[u8], k: u64, found: Found) -> io::Result<u64>
+fn tell(rt: &impl Print, noun: &str, k: u64, found: Result<(), Differs>) -> io::Result<u64>
     ensures { IfOk result (λ n. n ≡ agreeing found) }
 {
     match found {
-        Found::Agrees => Ok(1),
-        Found::Length => say(rt, noun, k, b": length\n"),
-        Found::Bytes => say(rt, noun, k, b": bytes\n"),
-        Found::Check => say(rt, noun, k, b": check\n"),
-        Found::TooLong => say(rt, noun, k, b": too long\n"),
-        Found::Answer => say(rt, noun, k, b": answer\n"),
+        Ok(()) => Ok(1),
+        Err(differs) => say(rt, noun, k, differs.words()),
     }
 }
 
@@ -349,7 +309,7 @@ fn tell(rt: &impl Print, noun: &[u8], k: u64, found: Found) -> io::Result<u64>
 fn repeats(line: Line) -> u64
     ensures { result ≤ 1 }
 {
-    if line.times == 0 { 0 } else { 1 }
+    u64::from(line.times != 0)
 }
 
 // How far a file is read, how many of its days or pairs agree, how many have a repeated part, and
@@ -379,9 +339,9 @@ impl Tally {
     fn with(
         self,
         rt: &impl Print,
-        noun: &[u8],
+        noun: &str,
         k: u64,
-        found: Found,
+        found: Result<(), Differs>,
         end: usize,
         repeats: u64,
     ) -> io::Result<Tally>
@@ -398,15 +358,13 @@ impl Tally {
     }
 
     // The k-th is not well written.
-    fn stop(self, rt: &impl Print, noun: &[u8], k: u64) -> io::Result<Tally>
+    fn stop(self, rt: &impl Print, noun: &str, k: u64) -> io::Result<Tally>
         ensures { IfOk result (λ t. t ≡ stopped self) }
     {
-        say(rt, noun, k, b": not well written\n")?;
+        say(rt, noun, k, "not well written")?;
         Ok(Tally {
-            at: self.at,
-            agree: self.agree,
-            repeated: self.repeated,
             good: false,
+            ..self
         })
     }
 
@@ -422,12 +380,12 @@ impl Tally {
         requires { Counted (length file.now) k self × ((length file.now ≤ 1703936) × (k < 2097152)) }
         ensures { IfOk result (λ t. Counted (length file.now) (k + 1) t) }
     {
-        let line = Line::read(file, self.at);
-        if line.good & (line.end <= file.len()) {
-            let found = one(file, line, day, out);
-            self.with(rt, b"day", k + 1, found, line.end, repeats(line))
-        } else {
-            self.stop(rt, b"day", k + 1)
+        match Line::read(file, self.at) {
+            Some(line) if line.end <= file.len() => {
+                let found = one(file, line, day, out);
+                self.with(rt, "day", k + 1, found, line.end, repeats(line))
+            }
+            _ => self.stop(rt, "day", k + 1),
         }
     }
 
@@ -436,12 +394,12 @@ impl Tally {
         requires { Counted (length file.now) k self × ((length file.now ≤ 1703936) × (k < 2097152)) }
         ensures { IfOk result (λ t. t ≡ next_pair file.now self) }
     {
-        let pair = Pair::read(file, self.at);
-        if pair.good & (pair.end <= file.len()) {
-            let found = one_pair(file, pair);
-            self.with(rt, b"pair", k + 1, found, pair.end, 0)
-        } else {
-            self.stop(rt, b"pair", k + 1)
+        match Pair::read(file, self.at) {
+            Some(pair) if pair.end <= file.len() => {
+                let found = one_pair(file, pair);
+                self.with(rt, "pair", k + 1, found, pair.end, 0)
+            }
+            _ => self.stop(rt, "pair", k + 1),
         }
     }
 }
@@ -458,11 +416,11 @@ fn all(
     requires { (at ≤ length file.now) × ((length file.now ≤ 1703936) × (count ≤ 2097152)) }
 {
     let mut tally = Tally::begin(at);
-    let mut k: u64 = 0;
-    while (k < count) & tally.good {
-        let next = tally.next(rt, k, file, day, out)?;
-        tally = next;
-        k += 1;
+    for k in 0..count {
+        if !tally.good {
+            break;
+        }
+        tally = tally.next(rt, k, file, day, out)?;
     }
     Ok(tally)
 }
@@ -473,33 +431,30 @@ fn all_pairs(rt: &impl Print, file: &[u8], at: usize, count: u64) -> io::Result<
     ensures { IfOk result (λ t. t ≡ pairs_from count file.now (beginning at)) }
 {
     let mut tally = Tally::begin(at);
-    let mut k: u64 = 0;
-    while (k < count) & tally.good {
-        let next = tally.next_pair(rt, k, file)?;
-        tally = next;
-        k += 1;
+    for k in 0..count {
+        if !tally.good {
+            break;
+        }
+        tally = tally.next_pair(rt, k, file)?;
     }
     Ok(tally)
 }
 
 // Says how many agree, and whether a file of n bytes is not as its first line says: that line is
-// not good, or something follows the last day or pair, or not so many have a repeated part.
+// not well written, or something follows the last day or pair, or not so many as it says have a
+// repeated part.
 fn finish(
     rt: &impl Print,
-    noun: &[u8],
+    noun: &str,
     tally: Tally,
-    good: bool,
     n: usize,
-    repeated: u64,
+    repeated: Option<u64>,
 ) -> io::Result<()> {
-    if !good | (tally.good & ((tally.at != n) | (tally.repeated != repeated))) {
-        rt.write_all(noun)?;
-        rt.write_all(b"s: not as its first line says\n")?;
+    let as_said = tally.at == n && repeated == Some(tally.repeated);
+    if repeated.is_none() || (tally.good && !as_said) {
+        println!(rt; "{noun}s: not as its first line says")?;
     }
-    rt.print(tally.agree)?;
-    rt.write_all(b" ")?;
-    rt.write_all(noun)?;
-    rt.write_all(b"s agree\n")
+    println!(rt; "{} {noun}s agree", tally.agree)
 }
 
 // Room for the days, for a day or for a sheet.
@@ -511,79 +466,58 @@ fn room() -> [u8; 1703936] {
 fn run(rt: &impl Print, file: &[u8]) -> io::Result<()>
     requires { length file.now ≤ 1703936 }
 {
-    let count = Number::start(0).next(file, b'\t', Number::MOST);
-    let repeated = count.next(file, b'\n', Number::MOST);
+    let Some(count) = Number::read(file, 0, b'\t', Number::MOST) else {
+        return finish(rt, "day", Tally::begin(0), file.len(), None);
+    };
+    let repeated = Number::read(file, count.at, b'\n', Number::MOST);
+    let at = file.len() - asked::after_line(file).len();
     let mut day = room();
     let mut out = room();
-    let tally = all(rt, file, repeated.at, count.n, &mut day, &mut out)?;
-    finish(rt, b"day", tally, repeated.good, file.len(), repeated.n)
+    let tally = all(rt, file, at, count.n, &mut day, &mut out)?;
+    finish(rt, "day", tally, file.len(), repeated.map(|r| r.n))
 }
 
 // The pairs, of which the first line says how many there are.
 fn run_pairs(rt: &impl Print, file: &[u8]) -> io::Result<()>
     requires { length file.now ≤ 1703936 }
 {
-    let count = Number::start(0).next(file, b'\n', Number::MOST);
+    let Some(count) = Number::read(file, 0, b'\n', Number::MOST) else {
+        return finish(rt, "pair", Tally::begin(0), file.len(), None);
+    };
     let tally = all_pairs(rt, file, count.at, count.n)?;
-    finish(rt, b"pair", tally, count.good, file.len(), 0)
-}
-
-// Opens a file to read it. What is no text names no file.
-fn open<R: Files>(rt: &R, name: &[u8]) -> Option<R::File> {
-    let path = str::from_utf8(name).ok()?;
-    fs::open(rt, path).ok()
-}
-
-// Reads until buf is full or the input ends, and answers how many bytes it put at the start of buf.
-fn read_full(from: &mut impl Read, buf: &mut [u8]) -> io::Result<usize>
-    ensures { ReadsAtMost result buf.new }
-{
-    let mut done = 0;
-    while done < buf.len() {
-        let n = from.read(&mut buf[done..])?;
-        if n == 0 {
-            break;
-        }
-        done += n;
-    }
-    Ok(done)
+    finish(rt, "pair", tally, file.len(), Some(0))
 }
 
 // Reads a file, and answers its length. Where it cannot be opened or fills the room, says so, and
-// answers the length of the room.
-fn load(rt: &(impl Files + Print), name: &[u8], file: &mut [u8]) -> io::Result<usize>
-    ensures { ReadsAtMost result file.new }
+// answers none.
+fn load(rt: &(impl Files + Print), name: &str, file: &mut [u8]) -> io::Result<Option<usize>>
+    ensures { IfOk result (λ read. IfSome read (λ n. n ≤ length file.new)) }
 {
-    let Some(mut from) = open(rt, name) else {
-        rt.write_all(name)?;
-        rt.write_all(b": cannot be opened\n")?;
-        return Ok(file.len());
+    let Some(n) = asked::load(rt, name, file)? else {
+        println!(rt; "{name}: cannot be opened")?;
+        return Ok(None);
     };
-    let n = read_full(&mut from, file)?;
-    drop(from);
     if n >= file.len() {
-        rt.write_all(name)?;
-        rt.write_all(b": too long\n")?;
+        println!(rt; "{name}: too long")?;
+        return Ok(None);
     }
-    Ok(n)
+    Ok(Some(n))
 }
 
 fn days(rt: &(impl Files + Print)) -> io::Result<()> {
     let mut file = room();
-    let n = load(rt, b"days", &mut file)?;
-    if n < file.len() {
-        run(rt, &file[..n])?;
+    match load(rt, "days", &mut file)? {
+        Some(n) => run(rt, &file[..n]),
+        None => Ok(()),
     }
-    Ok(())
 }
 
 fn pairs(rt: &(impl Files + Print)) -> io::Result<()> {
     let mut file = [0; 262144];
-    let n = load(rt, b"pairs", &mut file)?;
-    if n < file.len() {
-        run_pairs(rt, &file[..n])?;
+    match load(rt, "pairs", &mut file)? {
+        Some(n) => run_pairs(rt, &file[..n]),
+        None => Ok(()),
     }
-    Ok(())
 }
 
 fn main(rt: HostRuntime) -> io::Result<()> {

@@ -38,14 +38,14 @@ use Rattle.group.specs.Answers.{Gives}
 use Rattle.group.specs.Table.{most}
 use Rattle.group.specs.Hearing.{place, link_of, whole}
 use Rattle.group.specs.Verbs.{place_of, names_nobody, known, state_refusal, verb_refusal, links_after, verb_said, did, verb_outcome}
-use Rattle.group.proofs.Answering.{is-short, is-long, gives-not, gives_so}
+use Rattle.group.proofs.Answering.{is-short, is-long, gives-not, gives-refused, gives_so}
 use Rattle.places.specs.Words.{servers_of, Keeps}
 use Rattle.places.proofs.Canonical.{becomes}
-use Rattle.frame.specs.Answers.{state_of}
+use Rattle.frame.specs.Answers.{state_of, verdict_of, bytes_of}
 use Rattle.verbs.specs.Answers.{Acts}
 use Rattle.verbs.specs.declared.Deed.{Deed}
-use Rattle.verbs.specs.declared.Acted.{Acted}
-use Rattle.verbs.specs.Steps.{known_at, state_number, link_after, Does, Tells, put, Decided}
+use Rattle.verbs.specs.declared.Made.{Made}
+use Rattle.verbs.specs.Steps.{known_at, state_number, link_after, Makes, Does, Tells, put, Decided}
 
 -- a test joined with one that holds
 pub and_rest : (t : Bool) → (t && true) ≡ t
@@ -60,33 +60,61 @@ unfolding choose after
 nothing t s true = refl
 nothing t s false = refl
 
-swapped : (w : Bool) (x y : ℕ) → choose (not w) x y ≡ choose w y x
+pub swapped : (w : Bool) (x y : ℕ) → choose (not w) x y ≡ choose w y x
 unfolding choose
 swapped true x y = refl
 swapped false x y = refl
 
-module _ {t b : ℕ} {s : Server} {n : Result (Unit {0}) Refusal} where
-  pub cut_does : {w : Bool} → of_verdict n ≡ choose w 0 15 → Does t Cut b s w (record { verdict = n; said = says.One word.Cut; server = s; link = false })
+module _ {t b : ℕ} {s : Server} where
+  pub cut_makes : {w : Bool} → Makes t Cut b s w (record { said = says.One word.Cut; server = s; link = false })
   unfolding verb_happens
-  cut_does e = record { number = e; told = refl; server = nothing t s _; link = refl }
+  cut_makes = record { told = refl; server = nothing t s _; link = refl }
 
-  pub mend_does : (w : Bool) → of_verdict n ≡ choose (not w) 0 15 → Does t Mend b s w (record { verdict = n; said = says.One word.Mended; server = s; link = true })
+  pub mend_makes : {w : Bool} → Makes t Mend b s w (record { said = says.One word.Mended; server = s; link = true })
   unfolding verb_happens
-  mend_does w e = record { number = e ∙ swapped w 0 15; told = refl; server = nothing t s _; link = refl }
+  mend_makes = record { told = refl; server = nothing t s _; link = refl }
 
--- the variants of the verbs of a server, by their numbers
+-- the other verbs, one by one
 
-pub others_do :
-    {t b : ℕ} {s : Server} {w : Bool} (v : Verb) {r : Deed} → (v ≡ Cut → ⊥) → (v ≡ Mend → ⊥) → of_verdict r.verdict ≡ (verb_answer v b s).number →
-    r.said ≡ said (verb_happens v b (verb_answer v b s)) → r.server ≡ after t s (verb_happens v b (verb_answer v b s)) → r.link ≡ w → Does t v b s w r
-others_do Start not_cut not_mend n e s l = record { number = n; told = e; server = s; link = l }
-others_do Ready not_cut not_mend n e s l = record { number = n; told = e; server = s; link = l }
-others_do Unready not_cut not_mend n e s l = record { number = n; told = e; server = s; link = l }
-others_do Pass not_cut not_mend n e s l = record { number = n; told = e; server = s; link = l }
-others_do Crash not_cut not_mend n e s l = record { number = n; told = e; server = s; link = l }
-others_do Restart not_cut not_mend n e s l = record { number = n; told = e; server = s; link = l }
-others_do Cut not_cut not_mend n e s l = absurd (not_cut refl)
-others_do Mend not_cut not_mend n e s l = absurd (not_mend refl)
+pub others_make :
+    {t b : ℕ} {s : Server} {w : Bool} (v : Verb) {r : Deed} → (v ≡ Cut → ⊥) → (v ≡ Mend → ⊥) → r.said ≡ said (verb_happens v b (verb_answer v b s)) →
+    r.server ≡ after t s (verb_happens v b (verb_answer v b s)) → r.link ≡ w → Makes t v b s w r
+others_make Start not_cut not_mend e s l = record { told = e; server = s; link = l }
+others_make Ready not_cut not_mend e s l = record { told = e; server = s; link = l }
+others_make Unready not_cut not_mend e s l = record { told = e; server = s; link = l }
+others_make Pass not_cut not_mend e s l = record { told = e; server = s; link = l }
+others_make Crash not_cut not_mend e s l = record { told = e; server = s; link = l }
+others_make Restart not_cut not_mend e s l = record { told = e; server = s; link = l }
+others_make Cut not_cut not_mend e s l = absurd (not_cut refl)
+others_make Mend not_cut not_mend e s l = absurd (not_mend refl)
+
+pub others_number : (b : ℕ) (s : Server) (w : Bool) (v : Verb) → (v ≡ Cut → ⊥) → (v ≡ Mend → ⊥) → state_number v b s w ≡ (verb_answer v b s).number
+others_number b s w Start not_cut not_mend = refl
+others_number b s w Ready not_cut not_mend = refl
+others_number b s w Unready not_cut not_mend = refl
+others_number b s w Pass not_cut not_mend = refl
+others_number b s w Crash not_cut not_mend = refl
+others_number b s w Restart not_cut not_mend = refl
+others_number b s w Cut not_cut not_mend = absurd (not_cut refl)
+others_number b s w Mend not_cut not_mend = absurd (not_mend refl)
+
+-- ---- an answer that is one of the two
+
+same_ok : {T : Type 0} {m n : T} → ◌≡◌ {A = Result T Refusal} (Ok m) (Ok n) → m ≡ n
+same_ok e = cc
+
+same_err : {T : Type 0} {j k : Refusal} → ◌≡◌ {A = Result T Refusal} (Err j) (Err k) → j ≡ k
+same_err e = cc
+
+pub ok_or_err : {A T : Type 0} {m : T} {k : Refusal} → ◌≡◌ {A = Result T Refusal} (Ok m) (Err k) → A
+ok_or_err e = let z : ◌≡◌ {A = ℕ} 0 1 = cc in absurd (omega arith)
+
+module _ {t b : ℕ} {s : Server} {w : Bool} {v : Verb} where
+  pub does-not : {k : Refusal} → state_number v b s w ≡ number_of k → Does t v b s w (Err k)
+  does-not e = record { allowed = λ m h. ok_or_err (sym h); refused = λ j h. e ∙ ap number_of (same_err h) }
+
+  pub does_so : {e : Deed} → state_number v b s w ≡ 0 → Makes t v b s w e → Does t v b s w (Ok e)
+  does_so z q = record { allowed = λ m h. (z, subst (Makes t v b s w) (same_ok h) q); refused = λ k h. ok_or_err h }
 
 -- ---- lines said once
 
@@ -186,51 +214,86 @@ module _ (c : State) (v : Verb) (a b : ℕ) {x y : ℕ} (p : x ≡ place_of c a)
       (λ e. chosen _ e ∙ sym (chosen 8 (known_by ∙ e) ∙ m ∙ state-same c v a b (first-at e) (second_at e)))
       (λ e. other _ e ∙ sym (other n (known_by ∙ e))))
 
-  module _ {d d' : List ℕ} {n : ℕ} {e : Deed} {r : Acted} (w : Does c.frame v b (place c (x % most)) (whole c (x % most) (y % most)) e)
-      (m : n ≡ choose (names_nobody v a b) 2 (choose (known_at v a b x y) (of_verdict e.verdict) 8))
-      (g : Tells n (lines_of c.frame a e.said) d r d') where
-    gives : Gives c (verb_outcome c v a b) d r.verdict r.written (channel_in c (verb_outcome c v a b) (length d)) d'
+  -- 2 or 8
+  pub judged_not : {n : ℕ} → n ≡ choose (names_nobody v a b) 2 (choose (known_at v a b x y) 0 8) → 0 < n → verb_refusal c v a b ≡ n
+  unfolding verb_refusal
+  judged_not {n} m h =
+      on (tested (names_nobody v a b))
+      (λ e. chosen _ e ∙ sym (m ∙ chosen _ e))
+      (λ e.
+      on (tested (known c v a b))
+      (λ f. absurd (let z : n ≡ 0 = m ∙ other _ e ∙ chosen 8 (known_by ∙ f) in omega arith))
+      (λ f. other _ e ∙ other _ f ∙ sym (m ∙ other _ e ∙ other 0 (known_by ∙ f))))
+
+  -- neither: what the state says
+  module _ (z : ◌≡◌ {A = ℕ} 0 (choose (names_nobody v a b) 2 (choose (known_at v a b x y) 0 8))) where
+    pub says_state : verb_refusal c v a b ≡ state_number v b (place c (x % most)) (whole c (x % most) (y % most))
+    says_state =
+        let n = state_number v b (place c (x % most)) (whole c (x % most) (y % most)) in
+        let f = not_first (λ (k : ℕ). k ≡ 0) (names_nobody v a b) (sym z) (λ h. omega arith) in
+        let g = on (tested (known_at v a b x y)) (λ t. t) (λ t. absurd (let k : 8 ≡ 0 = sym (other 0 t) ∙ f.1 in omega arith)) in
+        judged {n = n} refl ∙ other _ f.0 ∙ chosen 8 g
+
+  pub verb_refused : {k : Refusal} {d : List ℕ} → verb_refusal c v a b ≡ number_of k → Decided c v a b x y d (Err k) d
+  verb_refused {k} {d} e =
+      record {
+        allowed = λ m h. ok_or_err (sym h);
+        refused = λ j h. subst (λ (i : Refusal). Gives c (verb_outcome c v a b) d (Err i) 0 c d) (same_err h) (gives-refused c (verb_outcome c v a b) d k e);
+      }
+
+  module _ {d d' : List ℕ} {e : Deed} (r : Result ℕ Refusal) (z : verb_refusal c v a b ≡ 0) (w : Makes c.frame v b (place c (x % most)) (whole c (x % most) (y % most)) e)
+      (g : Tells (lines_of c.frame a e.said) d r d') where
+    gives : Gives c (verb_outcome c v a b) d (verdict_of r) (bytes_of r) (channel_in c (verb_outcome c v a b) (length d)) d'
     gives =
-        let number : verb_refusal c v a b ≡ n = judged w.number ∙ sym m in
-        g c (verb_outcome c v a b) number
-        (λ z.
-        ap (λ (h : ℕ). lines_of c.frame a (verb_said v (verb_happens v b (verb_answer v b (place c h))))) (sym (first-at (has-places (number ∙ z))))
+        g c (verb_outcome c v a b) z
+        (ap (λ (h : ℕ). lines_of c.frame a (verb_said v (verb_happens v b (verb_answer v b (place c h))))) (sym (first-at (has-places z)))
         ∙ sym (ap (lines_of c.frame a) w.told))
 
-    verb-allowed : r.verdict ≡ Ok tt → Gives c (verb_outcome c v a b) d r.verdict r.written (put c (x % most) (y % most) e.server e.link) d'
+    pub verb_decided : {n : ℕ} → r ≡ Ok n → Decided c v a b x y d (Ok (record { written = n; server = e.server; link = e.link })) d'
     unfolding did
-    verb-allowed h =
-        as_allowed c (verb_outcome c v a b) gives h
-        (λ z.
+    verb_decided {n} f =
         let k = has-places z in
         let l = first-at k in
+        let q =
+        as_allowed c (verb_outcome c v a b) gives (ap verdict_of f)
+        (λ y'.
         sym (ap₂ (λ (u : List Server) (t : List Bool). record { frame = c.frame; period = c.period; servers = u; whole = t })
         (ap (set c.servers (x % most)) w.server ∙ ap (λ (i : ℕ). set c.servers i (after c.frame (place c i) (verb_happens v b (verb_answer v b (place c i))))) l)
-        (ap (set c.whole (link_of (x % most) (y % most))) w.link ∙ links-same c v a b l (second_at k))))
+        (ap (set c.whole (link_of (x % most) (y % most))) w.link ∙ links-same c v a b l (second_at k)))) in
+        record {
+          allowed =
+              λ m h.
+              subst (λ (i : Made). Gives c (verb_outcome c v a b) d (Ok tt) i.written (put c (x % most) (y % most) i.server i.link) d') (same_ok h)
+              (subst (λ (i : Result ℕ Refusal). Gives c (verb_outcome c v a b) d (verdict_of i) (bytes_of i) (put c (x % most) (y % most) e.server e.link) d') f q);
+          refused = λ j h. ok_or_err h;
+        }
 
-    verb-refused : {k : Refusal} → r.verdict ≡ Err k → Gives c (verb_outcome c v a b) d r.verdict r.written c d'
-    verb-refused h = as_refused c (verb_outcome c v a b) gives h refl
-
-    pub verb_decided : Decided c v a b x y d (record { verdict = r.verdict; written = r.written; server = e.server; link = e.link }) d'
-    verb_decided = record { allowed = verb-allowed; refused = λ k h. verb-refused h }
+    pub verb_short : {k : Refusal} → r ≡ Err k → Decided c v a b x y d (Err k) d'
+    verb_short {k} f =
+        let q = as_refused c (verb_outcome c v a b) gives (ap verdict_of f) refl in
+        record {
+          allowed = λ m h. ok_or_err (sym h);
+          refused =
+              λ j h.
+              subst (λ (i : Refusal). Gives c (verb_outcome c v a b) d (Err i) 0 c d') (same_err h)
+              (subst (λ (i : Result ℕ Refusal). Gives c (verb_outcome c v a b) d (verdict_of i) (bytes_of i) c d') f q);
+        }
 
 -- an attempt on a server and a link that are those of the channel
 pub does_as :
-    {t u : ℕ} {v : Verb} {b : ℕ} {s x : Server} {w y : Bool} {e : Deed} → u ≡ t → s ≡ x → w ≡ y → Does t v b s w e → Does u v b x y e
+    {t u : ℕ} {v : Verb} {b : ℕ} {s x : Server} {w y : Bool} {e : Result Deed Refusal} → u ≡ t → s ≡ x → w ≡ y → Does t v b s w e → Does u v b x y e
 does_as {t} {u} {v} {b} {s} {x} {w} {y} {e} p q h f =
     subst (λ (n : ℕ). Does n v b x y e) (sym p) (subst (λ (z : Server). Does t v b z y e) q (subst (λ (z : Bool). Does t v b s z e) h f))
 
-pub tells_as : {t u n : ℕ} (a : ℕ) (k : Said) {d : List ℕ} {r : Acted} {d' : List ℕ} → u ≡ t → Tells n (lines_of t a k) d r d' → Tells n (lines_of u a k) d r d'
-tells_as {t} {u} {n} a k {d} {r} {d'} p g = subst (λ (m : ℕ). Tells n (lines_of m a k) d r d') (sym p) g
+pub tells_as : {t u : ℕ} (a : ℕ) (k : Said) {d : List ℕ} (r : Result ℕ Refusal) {d' : List ℕ} → u ≡ t → Tells (lines_of t a k) d r d' → Tells (lines_of u a k) d r d'
+tells_as {t} {u} a k {d} r {d'} p g = subst (λ (m : ℕ). Tells (lines_of m a k) d r d') (sym p) g
 
 -- ---- the answer
 
-pub not-refused : {v : Result (Unit {0}) Refusal} (k : Refusal) → v ≡ Ok tt → v ≡ Err k → ⊥
-not-refused k e f = let z : ◌≡◌ {A = ℕ} 0 1 = cc in omega arith
-
-module _ {t : ℕ} {w : List ℕ} {l : List Bool} {v : Verb} {a b : ℕ} {d : List ℕ} {r : Acted} {w' : List ℕ} {l' : List Bool} {d' : List ℕ} where
+module _ {t : ℕ} {w : List ℕ} {l : List Bool} {v : Verb} {a b : ℕ} {d : List ℕ} {r : Result ℕ Refusal} {w' : List ℕ} {l' : List Bool} {d' : List ℕ} where
   pub acted :
       Keeps w w' →
-      ((p : Period) → Gives (state_of t p (servers_of w) l) (verb_outcome (state_of t p (servers_of w) l) v a b) d r.verdict r.written (state_of t p (servers_of w') l') d') →
-      ((k : Refusal) → r.verdict ≡ Err k → (w' ≡ w) × (l' ≡ l)) → Acts t w l v a b d r w' l' d'
+      ((p : Period) →
+      Gives (state_of t p (servers_of w) l) (verb_outcome (state_of t p (servers_of w) l) v a b) d (verdict_of r) (bytes_of r) (state_of t p (servers_of w') l') d') →
+      ((k : Refusal) → r ≡ Err k → (w' ≡ w) × (l' ≡ l)) → Acts t w l v a b d r w' l' d'
   acted k g f = record { gives = g; words = λ p. becomes k (ap (λ (c : State). c.servers) (g p).channel); same = f }

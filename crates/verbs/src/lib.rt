@@ -12,6 +12,7 @@ ghost use Rattle.group.specs.Hearing.{link_of};
 ghost use Rattle.group.specs.Answers.{Gives};
 ghost use Rattle.group.specs.Verbs.{names_nobody, known, verb_outcome};
 ghost use Rattle.places.specs.Words.{servers_of, Becomes};
+ghost use Rattle.frame.specs.Answers.{verdict_of, bytes_of};
 ghost use Rattle.verbs.specs.Answers.{Knows, Acts};
 ghost use Rattle.verbs.specs.Steps.{known_at, Does, Tells, Decides, put};
 
@@ -21,26 +22,17 @@ use refusal::Refusal;
 use roles::{Said, Verb, Word};
 use server::Server;
 
-// The verdict on a verb, and how many bytes it wrote.
-#[derive(Clone, Copy)]
-pub struct Acted {
-    pub verdict: Result<(), Refusal>,
-    pub written: usize,
-}
-
-// What a verb answers on a state: where it is refused, nothing written and the same state.
+// What a verb answers on a state, how many bytes it wrote: where it is refused, nothing written and
+// the same state.
 #[derive(Clone, Copy)]
 pub struct Answered {
-    pub verdict: Result<(), Refusal>,
-    pub written: usize,
+    pub written: Result<usize, Refusal>,
     pub state: State,
 }
 
-// What a verb would make of its server and of its link, and what the sheet says of it. Where it is
-// refused, only the verdict counts.
+// What a verb would make of its server and of its link, and what the sheet says of it.
 #[derive(Clone, Copy)]
 struct Deed {
-    verdict: Result<(), Refusal>,
     said: Said,
     server: Server,
     link: bool,
@@ -63,22 +55,15 @@ fn known(verb: Verb, a: u16, b: u16, i: usize, j: usize) -> bool
     }
 }
 
-// 2, 8, and what the state says.
-fn judge(
-    verb: Verb,
-    a: u16,
-    b: u16,
-    i: usize,
-    j: usize,
-    allowed: Result<(), Refusal>,
-) -> Result<(), Refusal>
-    ensures { of_verdict result ≡ choose (names_nobody verb a b) 2 (choose (known_at verb a b i j) (of_verdict allowed) 8) }
+// 2, 8.
+fn judge(verb: Verb, a: u16, b: u16, i: usize, j: usize) -> Result<(), Refusal>
+    ensures { of_verdict result ≡ choose (names_nobody verb a b) 2 (choose (known_at verb a b i j) 0 8) }
 {
     if names_nobody(verb, a, b) {
         return Err(Refusal::Number);
     }
     if known(verb, a, b, i, j) {
-        allowed
+        Ok(())
     } else {
         Err(Refusal::Identity)
     }
@@ -102,82 +87,54 @@ fn allow_link(can: bool) -> Result<(), Refusal>
 }
 
 // What the state says: 12 to 15.
-fn attempt(verb: Verb, frame: u32, b: u16, s: Server, link: bool) -> Deed
+fn attempt(verb: Verb, frame: u32, b: u16, s: Server, link: bool) -> Result<Deed, Refusal>
     ensures { Does frame verb b s link result }
 {
     match verb {
-        Verb::Cut => Deed {
-            verdict: allow_link(link),
-            said: Said::One(Word::Cut),
-            server: s,
-            link: false,
-        },
-        Verb::Mend => Deed {
-            verdict: allow_link(!link),
-            said: Said::One(Word::Mended),
-            server: s,
-            link: true,
-        },
+        Verb::Cut => {
+            allow_link(link)?;
+            Ok(Deed {
+                said: Said::One(Word::Cut),
+                server: s,
+                link: false,
+            })
+        }
+        Verb::Mend => {
+            allow_link(!link)?;
+            Ok(Deed {
+                said: Said::One(Word::Mended),
+                server: s,
+                link: true,
+            })
+        }
         _ => {
             let acted = s.act(verb, frame, b);
-            let verdict = acted.verdict;
-            let event = acted.event;
-            let server = acted.server;
-            Deed {
-                verdict,
-                said: event.said(),
-                server,
+            acted.verdict?;
+            Ok(Deed {
+                said: acted.event.said(),
+                server: acted.server,
                 link,
-            }
+            })
         }
-    }
-}
-
-fn silent(k: Refusal) -> Acted
-    ensures { result ≡ record { verdict = Err k; written = 0 } }
-{
-    Acted {
-        verdict: Err(k),
-        written: 0,
     }
 }
 
 // The lines of an allowed verb, or 9.
-fn say(said: Said, frame: u32, identity: u16, out: &mut [u8]) -> Acted
-    ensures { Tells 0 (lines_of frame identity said) out.old result out.new }
+fn say(said: Said, frame: u32, identity: u16, out: &mut [u8]) -> Result<usize, Refusal>
+    ensures { Tells (lines_of frame identity said) out.old result out.new }
 {
     let room = out.len();
     let written = lines::say(out, true, 0, frame, identity, said);
     if written > room {
-        silent(Refusal::Short)
+        Err(Refusal::Short)
     } else {
-        Acted {
-            verdict: Ok(()),
-            written,
-        }
+        Ok(written)
     }
 }
 
-fn tell(
-    verdict: Result<(), Refusal>,
-    said: Said,
-    frame: u32,
-    identity: u16,
-    out: &mut [u8],
-) -> Acted
-    ensures { Tells (of_verdict verdict) (lines_of frame identity said) out.old result out.new }
-{
-    match verdict {
-        Ok(()) => say(said, frame, identity, out),
-        Err(k) => silent(k),
-    }
-}
-
-// The verdict on a verb, how many bytes it wrote, and what it makes of its server and of its link.
-// Where it is refused, these do not count.
+// How many bytes a verb wrote, and what it makes of its server and of its link.
 #[derive(Clone, Copy)]
 struct Made {
-    verdict: Result<(), Refusal>,
     written: usize,
     server: Server,
     link: bool,
@@ -196,22 +153,17 @@ fn decide(
     s: Server,
     link: bool,
     out: &mut [u8],
-) -> Made
+) -> Result<Made, Refusal>
     ensures { Decides frame verb a b first second s link out.old result out.new }
 {
-    let deed = attempt(verb, frame, b, s, link);
-    let allowed = deed.verdict;
-    let said = deed.said;
-    let server = deed.server;
-    let judged = judge(verb, a, b, first, second, allowed);
-    let acted = tell(judged, said, frame, a, out);
-    let verdict = acted.verdict;
-    Made {
-        verdict,
-        written: acted.written,
-        server,
+    judge(verb, a, b, first, second)?;
+    let deed = attempt(verb, frame, b, s, link)?;
+    let written = say(deed.said, frame, a, out)?;
+    Ok(Made {
+        written,
+        server: deed.server,
         link: deed.link,
-    }
+    })
 }
 
 // ---- in place
@@ -245,7 +197,7 @@ pub fn act(
     a: u16,
     b: u16,
     out: &mut [u8],
-) -> Acted
+) -> Result<usize, Refusal>
     ensures { Acts frame words.old whole.old verb a b out.old result words.new whole.new out.new }
 {
     let first = places::place_in(words, a);
@@ -263,17 +215,9 @@ pub fn act(
         s,
         whole[Table::SERVERS * i + j],
         out,
-    );
-    let verdict = done.verdict;
-    let server = done.server;
-    match verdict {
-        Ok(()) => put(words, whole, i, j, server, done.link),
-        Err(_) => {}
-    }
-    Acted {
-        verdict,
-        written: done.written,
-    }
+    )?;
+    put(words, whole, i, j, done.server, done.link);
+    Ok(done.written)
 }
 
 // ---- by value
@@ -313,7 +257,7 @@ pub fn knows_in(state: State, verb: Verb, a: u16, b: u16) -> bool
 
 // Any verb on a state.
 pub fn next(state: State, verb: Verb, a: u16, b: u16, out: &mut [u8]) -> Answered
-    ensures { Gives state (verb_outcome state verb a b) out.old result.verdict result.written result.state out.new }
+    ensures { Gives state (verb_outcome state verb a b) out.old (verdict_of result.written) (bytes_of result.written) result.state out.new }
 {
     let servers = state.servers;
     let first = group::place_in(servers, a);
@@ -332,20 +276,13 @@ pub fn next(state: State, verb: Verb, a: u16, b: u16, out: &mut [u8]) -> Answere
         state.whole[Table::SERVERS * i + j],
         out,
     );
-    let verdict = done.verdict;
-    let server = done.server;
-    match verdict {
-        Ok(()) => {
-            let after = replaced(state, i, j, server, done.link);
-            Answered {
-                verdict,
-                written: done.written,
-                state: after,
-            }
-        }
-        Err(_) => Answered {
-            verdict,
-            written: done.written,
+    match done {
+        Ok(made) => Answered {
+            written: Ok(made.written),
+            state: replaced(state, i, j, made.server, made.link),
+        },
+        Err(k) => Answered {
+            written: Err(k),
             state,
         },
     }

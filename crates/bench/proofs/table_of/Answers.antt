@@ -1,31 +1,16 @@
-use Prim.Native.Nat.{◌-◌}
+use mathlib.Core.Path.{sym, ◌∙◌}
 use native.Mathlib.Omega.{arith}
-use Rattle.bench.proofs.Listing.{list_begin, list_turn, list_end}
+use Rattle.bench.proofs.Listing.{few, list_turn}
 use Rattle.bench.proofs.table_of.Goals as goal
 
-pub loop-k-init : goal.loop-k-init
-loop-k-init c = list_begin c.empty-table.ensures
-
-pub offset_bounds-servers-i : goal.offset_bounds-servers-i
-offset_bounds-servers-i c = omega (arith, c.loop-k.invariant.even)
-
-pub bounds-servers-i : goal.bounds-servers-i
-bounds-servers-i c = omega (arith, c.loop-k.invariant.even)
-
-pub overflow_add-priority : goal.overflow_add-priority
-overflow_add-priority c = omega (arith, c.loop-k.invariant.even)
-
-pub offset_bounds-servers-i-in-loop-k : goal.offset_bounds-servers-i-in-loop-k
-offset_bounds-servers-i-in-loop-k c = omega (arith, c.loop-k.invariant.even)
-
-pub bounds-servers-i-in-loop-k : goal.bounds-servers-i-in-loop-k
-bounds-servers-i-in-loop-k c = omega (arith, c.loop-k.invariant.even)
-
-pub overflow_add-i : goal.overflow_add-i
-overflow_add-i c = omega (arith, c.loop-k.invariant.even)
-
-pub loop-k-preserved : goal.loop-k-preserved
-loop-k-preserved c = list_turn c.loop-k.invariant c.loop-k-test.true c.add-added.ensures.table
+pub loop-server-preserved : goal.loop-server-preserved
+loop-server-preserved c =
+    let v = c.loop-server.invariant in
+    let s = c.in-Some.ensures.steps in
+    (s.0 ∙ v.0, list_turn c.loop-server.table c.in-Some.server.now c.next.new.self.rest.now s.1.0 (s.1.1 ∙ v.0) c.add.ensures.table ∙ v.1)
 
 pub returns : goal.returns
-returns c = list_end c.loop-k.invariant c.loop-k-test.false
+returns c =
+    let v = c.loop-server.invariant in
+    let s = c.in-None.ensures.steps in
+    sym (few c.loop-server.table c.loop-server.server-iterator.rest.now (omega (arith, s.1.0, v.0))) ∙ v.1

@@ -1,10 +1,6 @@
-use Prim.Native.Nat.{◌-◌, ◌/◌}
-use lib.ListN.{length}
-use Rattle.bench.proofs.Listing.{Listing}
+use mathlib.Core.Path.{◌≡◌}
+use Rattle.bench.specs.Bench.{table_from, table_of}
 use Rattle.bench.proofs.table_of.Given as goal
 
-abbrev pub invariant-loop-k : goal.invariant-loop-k
-invariant-loop-k l = Listing l.servers l.table l.i l.k
-
-abbrev pub decreases-loop-k : goal.decreases-loop-k
-decreases-loop-k l = length l.servers / 2 - l.k
+abbrev pub invariant-loop-server : goal.invariant-loop-server
+invariant-loop-server l = (l.server-iterator.size ≡ 2) × (table_from l.table l.server-iterator.rest.now ≡ table_of l.servers)

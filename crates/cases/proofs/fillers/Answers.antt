@@ -1,15 +1,19 @@
+use mathlib.Core.Path.{◌≡◌}
 use native.Mathlib.Omega.{arith}
-use Rattle.cases.proofs.Filling.{count-begin, count_turn, count-end}
+use borrow.Author.Tests.{tests}
+use lib.Dec.{eqb}
+use lib.ListN.{length}
+use Rattle.std.proofs.Common.{rules}
+use Rattle.std.specs.List.{filter}
+use Rattle.std.proofs.lemmas.Iterator.{YieldsList-from_slice}
+use Rattle.std.proofs.lemmas.Iterator.Consumers.{count_from_yields_List, YieldsList-from_filter}
+use Rattle.cases.proofs.Filling.{filtered}
 use Rattle.cases.proofs.fillers.Goals as goal
 
-pub loop-i-init : goal.loop-i-init
-loop-i-init c = count-begin
-
-pub overflow_add-n : goal.overflow_add-n
-overflow_add-n c = let v = count_turn c.loop-i.invariant c.loop-i-test.true c.kept-n.ensures in omega (arith, v.few)
-
-pub loop-i-preserved : goal.loop-i-preserved
-loop-i-preserved c = count_turn c.loop-i.invariant c.loop-i-test.true c.kept-n.ensures
-
 pub returns : goal.returns
-returns c = count-end c.loop-i.invariant c.loop-i-test.false
+returns c =
+    let s = c.args.s.now in
+    let n : c.count.result ≡ length (filter (λ x. eqb x 35) s) =
+    count_from_yields_List _ c.count.result c.count.ensures.ran
+    (YieldsList-from_filter _ (λ x. eqb x 35) (YieldsList-from_slice s cc) c.filter.ensures.closure (λ x r q k. search (rules, tests))) in
+    omega (arith, n, filtered s)

@@ -3,4 +3,4 @@ use Rattle.printer.proofs.Answering.{answered_in}
 use Rattle.printer.proofs.print.Goals as goal
 
 pub returns : goal.returns
-returns c = answered_in c.run-ran.ensures c.answer-written.ensures (c.over.ensures [] [] [])
+returns c = answered_in c.run-ran.ensures (c.over.ensures [] [] [])

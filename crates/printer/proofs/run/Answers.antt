@@ -1,45 +1,49 @@
-use mathlib.Core.Path.{refl}
-use Prim.Native.Nat.{◌-◌}
+use Rattle.std.specs.Prelude.{Some, None}
+use mathlib.Core.Path.{refl, sym, ◌∙◌}
 use native.Mathlib.Omega.{arith}
+use Rattle.printer.proofs.Told.{not-to}
 use Rattle.printer.proofs.Leaving.{leaving_begins, leaving_turn}
-use Rattle.printer.proofs.Running.{told-begins, run_begins, kept, used-within, place-within, run_turn, run_less, told-turn, run_ends}
+use Rattle.printer.proofs.Running.{told-begins, run_begins, used-within, place-within, run_turn, run_less, told-turn, holds_in, ends_idle, ends_later, ends_short}
 use Rattle.printer.proofs.run.Goals as goal
 
-pub loop-goes-init : goal.loop-goes-init
-loop-goes-init c = (run_begins _ _ _ _ _, told-begins _ _ _ _, leaving_begins _)
-
-pub slice_bounds-turn-count : goal.slice_bounds-turn-count
-slice_bounds-turn-count c = c.loop-goes.invariant.0.within
-
-pub slice_bounds-turn-start : goal.slice_bounds-turn-start
-slice_bounds-turn-start c = c.loop-goes.invariant.0.within
-
-pub slice_bounds-turn-end : goal.slice_bounds-turn-end
-slice_bounds-turn-end c = omega arith
-
-pub slice_bounds-turn-count-in-loop-goes : goal.slice_bounds-turn-count-in-loop-goes
-slice_bounds-turn-count-in-loop-goes c = let v = c.loop-goes.invariant.0 in omega (arith, v.room, kept v)
-
-pub slice_bounds-turn-start-in-loop-goes : goal.slice_bounds-turn-start-in-loop-goes
-slice_bounds-turn-start-in-loop-goes c = let v = c.loop-goes.invariant.0 in omega (arith, v.room, kept v)
-
-pub slice_bounds-turn-end-in-loop-goes : goal.slice_bounds-turn-end-in-loop-goes
-slice_bounds-turn-end-in-loop-goes c = omega arith
+pub loop-n-init : goal.loop-n-init
+loop-n-init c = (run_begins _ _ _ _ _, told-begins _ _ _ _, leaving_begins _)
 
 pub overflow_add-used : goal.overflow_add-used
-overflow_add-used c = omega (arith, c.well_formed.1.1.1.1.0.0, used-within c.loop-goes.invariant.0 c.turn-turned.ensures.turns)
+overflow_add-used c = omega (arith, c.well_formed.1.1.1.1.0.0, used-within c.loop-n.invariant.0 c.turn-turned.ensures.turns)
 
 pub overflow_add-at : goal.overflow_add-at
-overflow_add-at c = omega (arith, c.well_formed.1.1.1.1.1.1.0.0, place-within c.loop-goes.invariant.0 c.turn-turned.ensures.turns)
+overflow_add-at c = let n = c.in-Ok-Some in omega (arith, c.well_formed.1.1.1.1.1.1.0.0, place-within c.loop-n.invariant.0 c.turn-turned.ensures.turns (holds_in {o = Some n.n} n.is (rw n.is at n.field-0-is)))
 
-pub loop-goes-smaller : goal.loop-goes-smaller
-loop-goes-smaller c = run_less c.loop-goes.invariant.0 c.turn-turned.ensures.turns c.loop-goes-test.true
+pub returns-in-Err : goal.returns-in-Err
+returns-in-Err c =
+    let v = c.loop-n.invariant in
+    let t = c.turn-turned.ensures in
+    let e = ends_short v.0 t.turns refl t.line v.1 {x = c.turn-turned.result.feed} c.in-Err.is c.if-first.true in
+    record { runs = e.0; leaves = (leaving_turn v.2 t).leaves; line = e.1; same = λ n z. t.same _ c.in-Err.is ∙ v.2.fresh c.if-first.true }
 
-pub loop-goes-preserved : goal.loop-goes-preserved
-loop-goes-preserved c = let v = c.loop-goes.invariant in let t = c.turn-turned.ensures in (run_turn v.0 t.turns refl t.line, told-turn v.0 t.turns c.loop-goes-test.true v.1, leaving_turn v.2 t)
+pub returns-in-Ok-None : goal.returns-in-Ok-None
+returns-in-Ok-None c =
+    let v = c.loop-n.invariant in
+    let t = c.turn-turned.ensures in
+    let n = c.in-Ok-None in
+    let e = ends_idle v.0 t.turns refl t.line v.1 {x = c.turn-turned.result.feed} (holds_in {o = None} n.is (rw n.is at n.field-0-is)) in
+    record { runs = e.0; leaves = (leaving_turn v.2 t).leaves; line = e.1; same = λ n z. not-to (sym z) }
 
-pub shape_of-out : goal.shape_of-out
-shape_of-out c = kept c.loop-goes.invariant.0
+pub returns-in-Err-2 : goal.returns-in-Err-2
+returns-in-Err-2 c =
+    let v = c.loop-n.invariant in
+    let t = c.turn-turned.ensures in
+    let e = ends_later v.0 t.turns refl t.line v.1 {x = c.turn-turned.result.feed} c.in-Err.is c.if-first.false in
+    record { runs = e.0; leaves = (leaving_turn v.2 t).leaves; line = e.1; same = λ n z. not-to (sym z) }
 
-pub returns : goal.returns
-returns c = let v = c.loop-goes.invariant in let e = run_ends v.0 v.1 c.loop-goes-test.false in record { runs = e.0; leaves = v.2.leaves; line = e.1; same = v.2.same }
+pub loop-n-smaller : goal.loop-n-smaller
+loop-n-smaller c = let n = c.in-Ok-Some in run_less c.loop-n.invariant.0 c.turn-turned.ensures.turns (holds_in {o = Some n.n} n.is (rw n.is at n.field-0-is))
+
+pub loop-n-preserved : goal.loop-n-preserved
+loop-n-preserved c =
+    let v = c.loop-n.invariant in
+    let t = c.turn-turned.ensures in
+    let n = c.in-Ok-Some in
+    let y = holds_in {o = Some n.n} n.is (rw n.is at n.field-0-is) in
+    (run_turn v.0 t.turns refl t.line y, told-turn v.0 t.turns v.1 y, leaving_turn v.2 t)

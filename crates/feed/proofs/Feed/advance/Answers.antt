@@ -13,7 +13,7 @@ pub returns-in-Ok : goal.returns-in-Ok
 returns-in-Ok c l =
     let a = c.args in
     let f = fed_of a.self l a.words.now a.whole.now in
-    let q = within-done (channel_of a.self a.words.now a.whole.now) a.time c.requires.0 c.run_within-ran.ensures.gives c.in-Ok.is in
+    let q = within-done (channel_of a.self a.words.now a.whole.now) a.time c.requires.0 (rw c.in-Ok.is at c.run_within-ran.ensures.gives) refl in
     let g : State → Fed = λ s. record { over = f.over; number = f.number; line = f.line; day = on atEntries s } in
     record {
       makes = makes-written q.0 (ap g q.1);
@@ -28,7 +28,7 @@ returns-in-Err c l =
     let v = c.in-Err.is in
     rw (ran.same _ v)
     (record {
-      makes = makes-refused (within-not (channel_of a.self a.words.now a.whole.now) a.time c.requires.0 ran.gives v) refl;
+      makes = makes-refused (within-not (channel_of a.self a.words.now a.whole.now) a.time c.requires.0 (rw v at ran.gives) refl) refl;
       passes = passes_same;
       same = λ i z. (refl, refl, refl);
     })
