@@ -634,7 +634,7 @@ fn turn_all(
     wet: bool,
     at: usize,
 ) -> usize
-    requires { (length words.old ≡ packed) × ((before < last_frame) × (Still n (servers_of words.old) × (Hearers listed.now whole.now count heard.now × Lists (servers_of words.old) (record { places = listed.now; ranks = ranks.now; sendings = sendings.now; count = count })))) }
+    requires { (before < last_frame) × (Still n (servers_of words.old) × (Hearers listed.now whole.now count heard.now × Lists (servers_of words.old) (record { places = listed.now; ranks = ranks.now; sendings = sendings.now; count = count }))) }
     ensures { Keeps words.old words.new × Runs wet (state_of before period (servers_of words.old) whole.now) out.old at (record { servers = servers_of words.new; at = result }) out.new }
 {
     let servers = places::servers_of(words);
@@ -656,7 +656,7 @@ fn tick_at(
     wet: bool,
     at: usize,
 ) -> usize
-    requires { (length words.old ≡ packed) × (j < most) }
+    requires { j < most }
     ensures { Keeps words.old words.new × TicksAt wet frame period (servers_of words.old) j out.old at (record { servers = servers_of words.new; at = result }) out.new }
 {
     let s = places::server(words, j);
@@ -679,7 +679,7 @@ fn tick_all(
     wet: bool,
     at: usize,
 ) -> usize
-    requires { (length words.old ≡ packed) × ((before < last_frame) × Still n (servers_of words.old)) }
+    requires { (before < last_frame) × Still n (servers_of words.old) }
     ensures { Keeps words.old words.new × TicksAll wet (before + 1) period (servers_of words.old) out.old at (record { servers = servers_of words.new; at = result }) out.new }
 {
     let frame = before + 1;
@@ -699,7 +699,7 @@ fn nobody_hears(heard: &[bool; Table::SERVERS]) -> bool
 
 // Nothing sent at place j.
 fn clear_at(words: &mut Packed, j: usize)
-    requires { (length words.old ≡ packed) × (j < most) }
+    requires { j < most }
     ensures { Keeps words.old words.new × (servers_of words.new ≡ set (servers_of words.old) j (cleared (get_or (servers_of words.old) j absent))) }
 {
     words[places::EACH * j + places::SENDING] = 0;
@@ -707,7 +707,7 @@ fn clear_at(words: &mut Packed, j: usize)
 
 // Nothing sent at any place; those from n on sent nothing.
 fn clear_all(words: &mut Packed, n: usize)
-    requires { (length words.old ≡ packed) × Still n (servers_of words.old) }
+    requires { Still n (servers_of words.old) }
     ensures { Keeps words.old words.new × (servers_of words.new ≡ map_from 0 clearing (servers_of words.old)) }
 {
     for j in 0..n {
@@ -725,7 +725,7 @@ fn unheard_frame(
     wet: bool,
     at: usize,
 ) -> usize
-    requires { (length words.old ≡ packed) × ((before < last_frame) × Still n (servers_of words.old)) }
+    requires { (before < last_frame) × Still n (servers_of words.old) }
     ensures { Keeps words.old words.new × TicksAll wet (before + 1) period (map_from 0 clearing (servers_of words.old)) out.old at (record { servers = servers_of words.new; at = result }) out.new }
 {
     clear_all(words, n);
@@ -762,7 +762,7 @@ fn heard_frame(
     wet: bool,
     at: usize,
 ) -> usize
-    requires { (length words.old ≡ packed) × ((before < last_frame) × Still n (servers_of words.old)) }
+    requires { (before < last_frame) × Still n (servers_of words.old) }
     ensures { Keeps words.old words.new × Runs wet (state_of before period (servers_of words.old) whole.now) out.old at (record { servers = servers_of words.new; at = result }) out.new }
 {
     let mut listed: [usize; Table::SERVERS] = [0; Table::SERVERS];
@@ -790,7 +790,7 @@ fn play_frame(
     wet: bool,
     at: usize,
 ) -> usize
-    requires { (length words.old ≡ packed) × ((before < last_frame) × (Still n (servers_of words.old) × Loud (servers_of words.old) loud)) }
+    requires { (before < last_frame) × (Still n (servers_of words.old) × Loud (servers_of words.old) loud) }
     ensures { Keeps words.old words.new × Runs wet (state_of before period (servers_of words.old) whole.now) out.old at (record { servers = servers_of words.new; at = result }) out.new }
 {
     if loud == 0 {
@@ -822,7 +822,7 @@ fn count_frame(
     out: &mut [u8],
     at: usize,
 ) -> usize
-    requires { (length words.now ≡ packed) × ((before < last_frame) × (Still n (servers_of words.now) × Loud (servers_of words.now) loud)) }
+    requires { (before < last_frame) × (Still n (servers_of words.now) × Loud (servers_of words.now) loud) }
     ensures { Out Bool.false out.old at (frame_lines (state_of before period (servers_of words.now) whole.now)) result out.new }
 {
     let mut copy = *words;
@@ -840,7 +840,7 @@ fn frame_fits(
     out: &mut [u8],
     at: usize,
 ) -> bool
-    requires { (length words.now ≡ packed) × ((at ≤ length out.old) × ((before < last_frame) × (Still n (servers_of words.now) × Loud (servers_of words.now) loud))) }
+    requires { (at ≤ length out.old) × ((before < last_frame) × (Still n (servers_of words.now) × Loud (servers_of words.now) loud)) }
     ensures { (result ≡ leb (at + length (frame_lines (state_of before period (servers_of words.now) whole.now))) (length out.old)) × (out.new ≡ out.old) }
 {
     if most_bytes(loud) <= out.len() - at {
@@ -869,7 +869,7 @@ fn play_fitting(
     out: &mut [u8],
     at: usize,
 ) -> Fared
-    requires { (length words.old ≡ packed) × ((at ≤ length out.old) × ((frame < last_frame) × (Still n (servers_of words.old) × Loud (servers_of words.old) loud))) }
+    requires { (at ≤ length out.old) × ((frame < last_frame) × (Still n (servers_of words.old) × Loud (servers_of words.old) loud)) }
     ensures { Plays (state_of frame period (servers_of words.old) whole.now) words.old out.old at result words.new out.new }
 {
     if frame_fits(words, whole, period, n, loud, frame, out, at) {
@@ -881,30 +881,6 @@ fn play_fitting(
     } else {
         Fared { at, full: true }
     }
-}
-
-// The same; `held` is what the numbers are: passed by value, it has their length.
-fn play_held(
-    words: &mut Packed,
-    held: Packed,
-    whole: &Links,
-    period: Period,
-    frame: u32,
-    out: &mut [u8],
-    at: usize,
-) -> Fared
-    requires { words.old ≡ held }
-    ensures { Plays (state_of frame period (servers_of words.old) whole.now) words.old out.old at result words.new out.new }
-{
-    if frame >= u32::MAX {
-        return Fared { at, full: true };
-    }
-    if at > out.len() {
-        return Fared { at, full: true };
-    }
-    let n = still_from(words);
-    let loud = loudest(words, n);
-    play_fitting(words, whole, period, n, loud, frame, out, at)
 }
 
 // The next frame in place, if there is one and its lines fit from the place `at` on; otherwise
@@ -919,8 +895,15 @@ pub fn play(
 ) -> Fared
     ensures { Plays (state_of frame period (servers_of words.old) whole.now) words.old out.old at result words.new out.new }
 {
-    let held = *words;
-    play_held(words, held, whole, period, frame, out, at)
+    if frame >= u32::MAX {
+        return Fared { at, full: true };
+    }
+    if at > out.len() {
+        return Fared { at, full: true };
+    }
+    let n = still_from(words);
+    let loud = loudest(words, n);
+    play_fitting(words, whole, period, n, loud, frame, out, at)
 }
 
 // A place in a slice so long, or one past its end.
@@ -928,27 +911,6 @@ fn clamp(room: usize, at: usize) -> usize
     ensures { result ≡ clamped room at }
 {
     if at <= room { at } else { room + 1 }
-}
-
-fn count_held(
-    words: &mut Packed,
-    held: Packed,
-    whole: &Links,
-    period: Period,
-    frame: u32,
-    out: &mut [u8],
-    at: usize,
-) -> usize
-    requires { words.old ≡ held }
-    ensures { Counts (state_of frame period (servers_of words.old) whole.now) words.old out.old at result words.new out.new }
-{
-    if frame >= u32::MAX {
-        return at;
-    }
-    let n = still_from(words);
-    let loud = loudest(words, n);
-    let start = clamp(out.len(), at);
-    play_frame(words, whole, period, n, loud, frame, out, false, start)
 }
 
 // The next frame in place, its lines only counted: the servers move on, no byte is changed. The
@@ -964,6 +926,11 @@ pub fn count(
 ) -> usize
     ensures { Counts (state_of frame period (servers_of words.old) whole.now) words.old out.old at result words.new out.new }
 {
-    let held = *words;
-    count_held(words, held, whole, period, frame, out, at)
+    if frame >= u32::MAX {
+        return at;
+    }
+    let n = still_from(words);
+    let loud = loudest(words, n);
+    let start = clamp(out.len(), at);
+    play_frame(words, whole, period, n, loud, frame, out, false, start)
 }

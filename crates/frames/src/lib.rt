@@ -208,7 +208,7 @@ fn play_fitting(
     out: &mut [u8],
     at: usize,
 ) -> Stretched
-    requires { (length words.old ≡ packed) × (frame < last_frame) }
+    requires { frame < last_frame }
     ensures { Moves words.old words.new frame result.frame × Fares (state_of frame period (servers_of words.old) whole.now) out.old at (servers_of words.new) result out.new }
 {
     let fared = frame::play(words, whole, period, frame, out, at);
@@ -331,7 +331,7 @@ fn beat_on(
 
 // Place i after a beat of place b in the frame `last`, which was heard in the next.
 fn settle_at(words: &mut Packed, i: usize, b: usize, last: u32)
-    requires { (length words.old ≡ packed) × ((i < most) × (last < last_frame)) }
+    requires { (i < most) × (last < last_frame) }
     ensures { Keeps words.old words.new × (servers_of words.new ≡ set (servers_of words.old) i (pulsed b last i (get_or (servers_of words.old) i absent))) }
 {
     let s = places::server(words, i);
@@ -345,7 +345,7 @@ fn settle_at(words: &mut Packed, i: usize, b: usize, last: u32)
 
 // All places after it.
 fn settle(words: &mut Packed, b: usize, last: u32)
-    requires { (length words.old ≡ packed) × ((last < last_frame) × (b < most)) }
+    requires { (last < last_frame) × (b < most) }
     ensures { Keeps words.old words.new × (servers_of words.new ≡ map_from 0 (pulsed b last) (servers_of words.old)) }
 {
     for i in 0..Table::SERVERS {
@@ -366,7 +366,7 @@ fn beat_along(
     out: &mut [u8],
     at: usize,
 ) -> Stretched
-    requires { (length words.old ≡ packed) × ((at ≤ length out.old) × (((frame < target) × (start < target)) × (Jumps period (servers_of words.old) frame target start × Calm period whole.now (servers_of words.old) b frame ((get_or (servers_of words.old) b absent).beat + beat_limit period)))) }
+    requires { (at ≤ length out.old) × (((frame < target) × (start < target)) × (Jumps period (servers_of words.old) frame target start × Calm period whole.now (servers_of words.old) b frame ((get_or (servers_of words.old) b absent).beat + beat_limit period))) }
     ensures { Moves words.old words.new frame result.frame × Stretches (state_of frame period (servers_of words.old) whole.now) target out.old at (servers_of words.new) result out.new }
 {
     let s = places::server(words, b);
@@ -395,7 +395,7 @@ fn stretch(
     out: &mut [u8],
     at: usize,
 ) -> Stretched
-    requires { (length words.old ≡ packed) × ((at ≤ length out.old) × (frame < target)) }
+    requires { (at ≤ length out.old) × (frame < target) }
     ensures { Moves words.old words.new frame result.frame × Stretches (state_of frame period (servers_of words.old) whole.now) target out.old at (servers_of words.new) result out.new }
 {
     let silent = nobody_sent(words);
@@ -415,17 +415,15 @@ fn stretch(
     }
 }
 
-// As many frames towards the target as fit. `held` is what the numbers are.
+// As many frames towards the target as fit.
 fn play_within(
     words: &mut Packed,
-    held: Packed,
     whole: &Links,
     period: Period,
     frame: u32,
     target: u32,
     out: &mut [u8],
 ) -> Reached
-    requires { words.old ≡ held }
     ensures { Moves words.old words.new frame result.frame × MovesWithin (state_of frame period (servers_of words.old) whole.now) target out.old (record { servers = servers_of words.new; frame = result.frame; at = result.at }) out.new }
 {
     let mut now = frame;
@@ -470,7 +468,7 @@ pub fn run(
         };
     }
     let mut next = words;
-    let played = play_within(&mut next, words, whole, period, frame, target, out);
+    let played = play_within(&mut next, whole, period, frame, target, out);
     Advance {
         written: Ok(played.at),
         frame: played.frame,
@@ -539,8 +537,7 @@ pub fn run_within(
             frame: target,
         };
     }
-    let held = *words;
-    let played = play_within(words, held, whole, period, frame, target, out);
+    let played = play_within(words, whole, period, frame, target, out);
     if (frame < target) & (played.frame == frame) {
         return Ran {
             written: Err(Refusal::Short),

@@ -22,54 +22,26 @@ use std::array;
 pub fn is_backup(role: Role) -> bool
     ensures { result ≡ is_backup role }
 {
-    match role {
-        Role::Down => false,
-        Role::Idle => false,
-        Role::Sync => false,
-        Role::Backup => true,
-        Role::Prospect => false,
-        Role::Primary => false,
-    }
+    matches!(role, Role::Backup)
 }
 
 pub fn is_prospect(role: Role) -> bool
     ensures { result ≡ is_prospect role }
 {
-    match role {
-        Role::Down => false,
-        Role::Idle => false,
-        Role::Sync => false,
-        Role::Backup => false,
-        Role::Prospect => true,
-        Role::Primary => false,
-    }
+    matches!(role, Role::Prospect)
 }
 
 pub fn is_primary(role: Role) -> bool
     ensures { result ≡ is_primary role }
 {
-    match role {
-        Role::Down => false,
-        Role::Idle => false,
-        Role::Sync => false,
-        Role::Backup => false,
-        Role::Prospect => false,
-        Role::Primary => true,
-    }
+    matches!(role, Role::Primary)
 }
 
 // In backup, prospect or primary: hears, and has a timer.
 pub fn is_active(role: Role) -> bool
     ensures { result ≡ is_active role }
 {
-    match role {
-        Role::Down => false,
-        Role::Idle => false,
-        Role::Sync => false,
-        Role::Backup => true,
-        Role::Prospect => true,
-        Role::Primary => true,
-    }
+    matches!(role, Role::Backup | Role::Prospect | Role::Primary)
 }
 
 // Neither hears nor has a timer, and sent nothing.
@@ -180,7 +152,7 @@ fn server_at(words: &Packed, i: usize) -> Server
 
 // The server of place i replaced.
 fn store(words: &mut Packed, i: usize, s: Server)
-    requires { (length words.old ≡ packed) × (i < most) }
+    requires { i < most }
     ensures { Stores words.old i s words.new }
 {
     let k = EACH * i;
@@ -223,23 +195,13 @@ pub fn server(words: &Packed, i: usize) -> Server
     }
 }
 
-// The server of place i replaced; nothing beyond the last place. `held` is what the numbers are:
-// passed by value, it has their length.
-fn put_held(words: &mut Packed, held: Packed, i: usize, s: Server)
-    requires { words.old ≡ held }
+// The server of place i replaced; nothing beyond the last place.
+pub fn put(words: &mut Packed, i: usize, s: Server)
     ensures { Puts words.old i s words.new }
 {
     if i < Table::SERVERS {
         store(words, i, s);
     }
-}
-
-// The server of place i replaced; nothing beyond the last place.
-pub fn put(words: &mut Packed, i: usize, s: Server)
-    ensures { Puts words.old i s words.new }
-{
-    let held = *words;
-    put_held(words, held, i, s);
 }
 
 // The place of an identity; beyond the last place where there is none, as there is none of 0.

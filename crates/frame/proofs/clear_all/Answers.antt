@@ -19,12 +19,12 @@ loop-j-init c = (keeps-all, map.begin (long_of _))
 pub loop-j-preserved : goal.loop-j-preserved
 loop-j-preserved c =
     let l = c.loop-j in
-    let h : l.j < 16 = omega (arith, c.requires.1.few, c.loop-j-test.true) in
+    let h : l.j < 16 = omega (arith, c.requires.few, c.loop-j-test.true) in
     let v = c.clear_at.ensures in
     (keeps_then l.invariant.0 v.0, subst (λ (x : List Server). Mapped clearing (servers_of c.args.words.now) 16 (l.j + 1) x) (sym v.1) (map.turn absent l.invariant.1 h (ap cleared (map.ahead absent l.invariant.1 h))))
 
 pub returns : goal.returns
 returns c =
     let l = c.loop-j in
-    let v = c.requires.1 in
+    let v = c.requires in
     (l.invariant.0, map.end-early absent l.invariant.1 (λ k g m. still_clear _ (v.still k (omega (arith, g, c.loop-j-test.false)) m)))

@@ -8,7 +8,7 @@ use Rattle.frame.proofs.Unheard.{unheard_run}
 use Rattle.frame.proofs.heard_frame.Goals as goal
 
 pub list_senders-count-requires : goal.list_senders-count-requires
-list_senders-count-requires c = (c.requires.1.1, (refl, refl))
+list_senders-count-requires c = (c.requires.1, (refl, refl))
 
 pub hearers-heard-requires : goal.hearers-heard-requires
 hearers-heard-requires c = c.list_senders-count.ensures.listed
@@ -29,7 +29,7 @@ returns-then-nobody_hears c =
 pub turn_all-requires : goal.turn_all-requires
 turn_all-requires c =
     let p = c.requires in
-    (p.0, (p.1.0, (p.1.1, (c.hearers-heard.ensures, lists_all c.ranks_of-ranks.ensures c.list_senders-count.ensures))))
+    (p.0, (p.1, (c.hearers-heard.ensures, lists_all c.ranks_of-ranks.ensures c.list_senders-count.ensures)))
 
 pub returns : goal.returns
 returns c = c.turn_all.ensures

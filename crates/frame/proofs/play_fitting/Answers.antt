@@ -9,7 +9,7 @@ pub frame_fits-requires : goal.frame_fits-requires
 frame_fits-requires c = c.requires
 
 pub play_frame-after-requires : goal.play_frame-after-requires
-play_frame-after-requires c = let p = c.requires in (p.0, p.1.1)
+play_frame-after-requires c = c.requires.1
 
 pub returns-then-frame_fits : goal.returns-then-frame_fits
 returns-then-frame_fits c =
@@ -17,7 +17,7 @@ returns-then-frame_fits c =
     let ch = state_of a.frame a.period (servers_of a.words.now) a.whole.now in
     let f = c.frame_fits.ensures in
     let p = c.play_frame-after.ensures in
-    plays-so ch c.requires.1.1.0 c.requires.1.0 (sym f.0 ∙ c.if-frame_fits.true) p.0 p.1.servers (rw f.1 at p.1.out)
+    plays-so ch c.requires.1.0 c.requires.0 (sym f.0 ∙ c.if-frame_fits.true) p.0 p.1.servers (rw f.1 at p.1.out)
 
 pub shape_of-out-else-frame_fits : goal.shape_of-out-else-frame_fits
 shape_of-out-else-frame_fits c = ap length c.frame_fits.ensures.1

@@ -22,7 +22,7 @@ pub loop-j-preserved : goal.loop-j-preserved
 loop-j-preserved c =
     let a = c.args in
     let l = c.loop-j in
-    let h : l.j < 16 = omega (arith, c.requires.1.1.few, c.loop-j-test.true) in
+    let h : l.j < 16 = omega (arith, c.requires.1.few, c.loop-j-test.true) in
     let p = c.tick_at-r.ensures in
     let q = ticks_as (map.ahead absent l.invariant.1.0 h) p.1 in (
       keeps_then l.invariant.0 p.0,
@@ -36,7 +36,7 @@ pub returns : goal.returns
 returns c =
     let a = c.args in
     let l = c.loop-j in
-    let v = c.requires.1.1 in (
+    let v = c.requires.1 in (
       l.invariant.0,
       record {
         servers = map.end-early absent l.invariant.1.0 (λ k g m. (still-ticked _ (v.still k (omega (arith, g, c.loop-j-test.false)) m) (a.before + 1) a.period (omega arith)).0);

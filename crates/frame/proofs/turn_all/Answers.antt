@@ -14,7 +14,7 @@ turned-t-requires c =
     let p = c.requires in
     let r : SenderList = record { places = a.listed.now; ranks = a.ranks.now; sendings = a.sendings.now; count = a.count } in
     let e = sym c.servers_of-servers.ensures in
-    (p.1.0, (subst (Still a.n) e p.1.1.0, (p.1.1.1.0, subst (λ (l : List Server). Lists l r) e p.1.1.1.1)))
+    (p.0, (subst (Still a.n) e p.1.0, (p.1.1.0, subst (λ (l : List Server). Lists l r) e p.1.1.1)))
 
 pub returns : goal.returns
 returns c =
@@ -22,4 +22,4 @@ returns c =
     let t = c.turned-t in
     let runs = subst (λ (l : List Server). Runs a.wet (state_of a.before a.period l a.whole.now) a.out.now a.at (record { servers = t.result.servers; at = t.result.at }) t.new.out) c.servers_of-servers.ensures t.ensures in
     let p = c.words_of.ensures in
-    (packs_keeps c.requires.0 (search (rules, length_mapped)) p, record { servers = p.servers ∙ runs.servers; out = runs.out })
+    (packs_keeps (search rules) (search (rules, length_mapped)) p, record { servers = p.servers ∙ runs.servers; out = runs.out })

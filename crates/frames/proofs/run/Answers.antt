@@ -18,9 +18,6 @@ returns-then-counted-out c =
     let g = too_short s (time_goes s a.target) a.out.now refl c.count_all-counted.ensures c.if-counted-out.true in
     record { gives = g; words = answered g keeps-all; same = λ k e. refl }
 
-pub play_within-played-requires : goal.play_within-played-requires
-play_within-played-requires c = refl
-
 pub returns : goal.returns
 returns c =
     let a = c.args in

@@ -1,6 +1,8 @@
 use mathlib.Core.Path.{◌≡◌, ap₂, ◌∙◌}
 use Prim.Native.Nat.{ℕ, ◌+◌, ◌*◌}
 use native.Mathlib.Omega.{arith}
+use borrow.Author.Rules.{rules}
+use lib.ListN.{length}
 use Rattle.places.specs.Words.{head_number}
 use Rattle.places.proofs.Words.{put5, spliced, role-small}
 use Rattle.places.proofs.store.Goals as goal
@@ -23,6 +25,6 @@ returns c =
     record {
       numbers =
           ap₂ (λ (x y : ℕ). put5 a.words.now (5 * a.i) x s.silence s.beat s.prospect y) head q.0
-          ∙ spliced a.words.now (5 * a.i) _ _ _ _ _ (omega (arith, c.requires.0, c.requires.1));
+          ∙ spliced a.words.now (5 * a.i) _ _ _ _ _ (let long : length c.args.words.now ≡ 80 = search rules in omega arith);
       fits = record { identity = r.1.0; priority = r.1.1; beats = q.1.0; pass = q.1.1 };
     }

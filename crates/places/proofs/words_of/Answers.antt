@@ -8,9 +8,6 @@ use Rattle.places.proofs.words_of.Goals as goal
 pub loop-i-init : goal.loop-i-init
 loop-i-init c = stored-begin refl (search (rules, length_mapped))
 
-pub store-requires : goal.store-requires
-store-requires c = (c.loop-i.invariant.room, omega arith)
-
 pub loop-i-preserved : goal.loop-i-preserved
 loop-i-preserved c = stored-turn c.loop-i.invariant c.loop-i-test.true refl c.store.ensures
 

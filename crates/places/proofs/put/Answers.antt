@@ -7,18 +7,13 @@ use Rattle.lists.proofs.Cases.{other}
 use Rattle.places.proofs.Words.{long_of}
 use Rattle.places.proofs.Canonical.{put_is, becomes, keeps-all}
 use borrow.Author.Rules.{rules}
-use Rattle.places.proofs.put_held.Goals as goal
-
-pub store-requires : goal.store-requires
-store-requires c =
-    let long : length c.args.held ≡ 80 = search rules in
-    (ap length c.requires ∙ long, c.if-i-lt-SERVERS.true)
+use Rattle.places.proofs.put.Goals as goal
 
 pub returns-then-i-lt-SERVERS : goal.returns-then-i-lt-SERVERS
 returns-then-i-lt-SERVERS c =
-    let long : length c.args.held ≡ 80 = search rules in
+    let long : length c.args.words.now ≡ 80 = search rules in
     let s = c.store.ensures in
-    put_is (ap length c.requires ∙ long) c.if-i-lt-SERVERS.true s.fits s.numbers
+    put_is long c.if-i-lt-SERVERS.true s.fits s.numbers
 
 pub returns-else-i-lt-SERVERS : goal.returns-else-i-lt-SERVERS
 returns-else-i-lt-SERVERS c =

@@ -5,7 +5,7 @@ use Rattle.places.specs.Words.{servers_of}
 use Rattle.frame.specs.Answers.{state_of}
 use Rattle.frame.proofs.Faring.{counts-so, counts-over}
 use borrow.Author.Rules.{rules}
-use Rattle.frame.proofs.count_held.Goals as goal
+use Rattle.frame.proofs.count.Goals as goal
 
 pub returns-then-frame-ge4294967295 : goal.returns-then-frame-ge4294967295
 returns-then-frame-ge4294967295 c =
@@ -17,8 +17,7 @@ loudest-loud-requires c = c.still_from-n.ensures
 
 pub play_frame-requires : goal.play_frame-requires
 play_frame-requires c =
-    let long : length c.args.held ≡ 80 = search rules in
-    (ap length c.requires ∙ long, (omega (arith, c.if-frame-ge4294967295.false), (c.still_from-n.ensures, c.loudest-loud.ensures)))
+    (omega (arith, c.if-frame-ge4294967295.false), (c.still_from-n.ensures, c.loudest-loud.ensures))
 
 pub returns : goal.returns
 returns c =
