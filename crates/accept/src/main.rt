@@ -7,7 +7,7 @@
 // that an input does, so the loop has a number of turns that no run uses up.
 #![tactic(auto)]
 
-ghost use Rattle.std.specs.Prelude.{◌≡◌, ◌+◌, ◌≤◌, Ok};
+ghost use Rattle.std.specs.Prelude.{◌≡◌, ◌+◌, ◌≤◌, length, Ok};
 ghost use Rattle.accept.specs.Steps.{Holds};
 
 use departure::Departure;
@@ -222,6 +222,13 @@ impl Run {
     }
 }
 
+// Room for what one read brings.
+fn room() -> [u8; 65536]
+    ensures { 65536 ≡ length result }
+{
+    [0; 65536]
+}
+
 // The file of that name, if it can be opened.
 fn opened<R: Files>(rt: &R, path: &str) -> Option<R::File> {
     File::open(rt, path).ok()
@@ -235,8 +242,8 @@ fn found(rt: &impl Files) -> Result<Departure, Trouble> {
         whole: [true; Table::LINKS],
         due: [0; Judge::DUE],
     };
-    let mut day = [0; 65536];
-    let mut sheet = [0; 65536];
+    let mut day = room();
+    let mut sheet = room();
     let judge = Judge::begin(&mut lent.due);
     let mut day_file = opened(rt, "day");
     let mut sheet_file = opened(rt, "sheet");

@@ -2,7 +2,7 @@
 // answer printed.
 #![tactic(auto)]
 
-ghost use Rattle.std.specs.Prelude.{◌≡◌, ◌<◌, ◌≤◌, length, IfOk, IfSome};
+ghost use Rattle.std.specs.Prelude.{◌≡◌, ◌+◌, ◌<◌, ◌≤◌, length, drop, IfOk, IfSome};
 ghost use Rattle.std.specs.Io.{ReadsAtMost};
 ghost use Rattle.asked.specs.Lines.{number_in, letter_in, first_line, after_line};
 
@@ -45,13 +45,13 @@ pub fn first_line(s: &[u8]) -> &[u8]
     &s[..end]
 }
 
-// What follows the first line and its line feed.
-pub fn after_line(s: &[u8]) -> &[u8]
-    ensures rest { result.now ≡ after_line s.now }
+// What follows a line that ends at the place `end`, and its line feed.
+fn after(s: &[u8], end: usize) -> &[u8]
+    requires { end ≤ length s.now }
+    ensures rest { result.now ≡ drop (end + 1) s.now }
     ensures within { length result.now ≤ length s.now }
     ensures shorter { 0 < length s.now → length result.now < length s.now }
 {
-    let end = text::find(s, b'\n');
     if end < s.len() {
         &s[end + 1..]
     } else {
@@ -59,14 +59,27 @@ pub fn after_line(s: &[u8]) -> &[u8]
     }
 }
 
-// Asks of each line, and of what follows it in the file.
-pub fn each_line<F: FnMut(&[u8]) -> io::Result<()>>(file: &[u8], mut ask: F) -> io::Result<()>
+// What follows the first line and its line feed.
+pub fn after_line(s: &[u8]) -> &[u8]
+    ensures rest { result.now ≡ after_line s.now }
+    ensures within { length result.now ≤ length s.now }
+    ensures shorter { 0 < length s.now → length result.now < length s.now }
+{
+    after(s, text::find(s, b'\n'))
+}
+
+// Asks of each line, and of what begins with it in the file. Where a line ends is looked for once.
+pub fn each_line<F: FnMut(&[u8], &[u8]) -> io::Result<()>>(
+    file: &[u8],
+    mut ask: F,
+) -> io::Result<()>
     requires { F.IsAlwaysCallable ask }
 {
     let mut tail = file;
     while !tail.is_empty() {
-        ask(tail)?;
-        tail = after_line(tail);
+        let line = first_line(tail);
+        ask(line, tail)?;
+        tail = after(tail, line.len());
     }
     Ok(())
 }

@@ -1,23 +1,16 @@
--- Fillers counted. Assumes nothing.
-use mathlib.Core.Path.{◌≡◌, refl}
-use mathlib.Core.List.{List, [], ◌∷◌}
-use mathlib.Core.Logic.{⊎_elim}
-use Prim.Native.Nat.{ℕ}
-use native.Mathlib.Omega.{arith}
-use borrow.Author.Tests.{eq-eqb, ne_eqb}
+-- Fillers counted: from one byte to the next, and past the last. Assumes nothing.
+use mathlib.Core.Path.{◌≡◌, ap}
+use mathlib.Core.List.{List}
+use Prim.Native.Nat.{ℕ, ◌+◌, ◌<◌, ◌≤◌}
+use native.Mathlib.Numerals.{add-one}
 use lib.Dec.{eqb}
-use lib.ListN.{length}
-use Rattle.std.specs.List.{filter}
+use lib.ListN.{length, get_or, drop, drop_of_length-le}
+use lib.Seq.{drop-cons}
 use Rattle.lists.specs.Choice.{choose}
-use Rattle.lists.proofs.Cases.{equal}
 use Rattle.cases.specs.Cases.{fillers}
 
--- they are as many as a filter keeps
-pub filtered : (s : List ℕ) → fillers s ≡ length (filter (λ x. eqb x 35) s)
-unfolding choose
-filtered [] = refl
-filtered (x ∷ s) =
-    ⊎_elim
-    (λ e. rw (eq-eqb x 35 e) (omega (arith, filtered s)))
-    (λ e. rw (ne_eqb x 35 e) (omega (arith, filtered s)))
-    (equal x 35)
+pub turn : (s : List ℕ) (i : ℕ) → i < length s → fillers (drop i s) ≡ choose (eqb (get_or s i 0) 35) 1 0 + fillers (drop (i + 1) s)
+turn s i h = rw add-one (ap fillers (drop-cons s i 0 h))
+
+pub end : (s : List ℕ) (i : ℕ) → length s ≤ i → fillers (drop i s) ≡ 0
+end s i h = ap fillers (drop_of_length-le s h)

@@ -101,7 +101,11 @@ fn fill(lent: &mut [u8])
 fn fillers(s: &[u8]) -> usize
     ensures { result ≡ fillers s.now }
 {
-    s.iter().filter(|x| **x == FILLER).count()
+    let mut n: usize = 0;
+    for x in s {
+        n += usize::from(*x == FILLER);
+    }
+    n
 }
 
 // ---- the servers
@@ -445,8 +449,8 @@ impl State {
 
 fn all(rt: &impl Print, file: &[u8], memory: &mut [u8]) -> io::Result<()> {
     let mut state = State::new();
-    asked::each_line(file, |tail| {
-        state = state.ask(rt, asked::first_line(tail), memory)?;
+    asked::each_line(file, |line, _| {
+        state = state.ask(rt, line, memory)?;
         Ok(())
     })
 }

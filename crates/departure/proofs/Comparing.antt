@@ -8,8 +8,7 @@ use native.Mathlib.Omega.{arith}
 use native.Mathlib.Numerals.{add-one}
 use borrow.Author.Tests.{eq-eqb, ne_eqb}
 use lib.Dec.{eqb}
-use lib.ListN.{length, get_or, take, drop, drop_of_length-le}
-use Rattle.std.proofs.lemmas.List.{length-take, length-drop, get_or-take, get_or-drop}
+use lib.ListN.{length, get_or, drop, drop_of_length-le}
 use lib.Seq.{drop-cons}
 use Rattle.lists.proofs.Cases.{equal, less, on, chosen, other, bit-small}
 use Rattle.departure.specs.declared.Compared.{Compared}
@@ -175,44 +174,3 @@ count-end {a} {b} {at} {e} {l} {k} v h =
     let size = v.size in
     let few = v.lines in
     record { few = omega arith; all = λ n w z. subst (λ (i : ℕ). Comparing a b (n + l) (at + i)) (let y : k ≡ 128 = omega arith in y) (v.all n w (omega arith)) }
-
--- what is left of the block on each side, where k bytes of it are counted
-pub record Walking (a b : List ℕ) (at : ℕ) (s t : List ℕ) (e l k : ℕ) : Type 0 where
-  pub counting : Counting a b at e l k
-  pub due-long : length s + k ≡ 128
-  pub found-long : length t + k ≡ 128
-  pub due : (i : ℕ) → i < length s → get_or s i 0 ≡ get_or a (at + k + i) 0
-  pub found : (i : ℕ) → i < length t → get_or t i 0 ≡ get_or b (at + k + i) 0
-
-block-at : (a : List ℕ) (at i : ℕ) → i < length (take 128 (drop at a)) → get_or (take 128 (drop at a)) i 0 ≡ get_or a (at + 0 + i) 0
-block-at a at i h =
-    let few : i < 128 = omega (arith, length-take 128 (drop at a)) in
-    get_or-take 128 (drop at a) i 0 few ∙ get_or-drop at a i 0 ∙ ap (λ (n : ℕ). get_or a n 0) (let z : at + i ≡ at + 0 + i = omega arith in z)
-
-pub walk-begin : (a b : List ℕ) (at : ℕ) → at + 128 ≤ length a → at + 128 ≤ length b → Walking a b at (take 128 (drop at a)) (take 128 (drop at b)) 0 0 0
-walk-begin a b at ha hb =
-    record {
-      counting = count-begin a b at;
-      due-long = omega (arith, length-take 128 (drop at a), length-drop at a);
-      found-long = omega (arith, length-take 128 (drop at b), length-drop at b);
-      due = block-at a at;
-      found = block-at b at;
-    }
-
-pub walk-turn :
-    {a b : List ℕ} {at : ℕ} {s t s' t' : List ℕ} {e l k x y m q : ℕ} → Walking a b at s t e l k → at + 128 ≤ length a → at + 128 ≤ length b →
-    s ≡ x ∷ s' → t ≡ y ∷ t' → m ≡ alike x y → q ≡ line_end x → Walking a b at s' t' (e + m) (l + q) (k + 1)
-walk-turn {a} {b} {at} {s} {t} {s'} {t'} {e} {l} {k} {x} {y} {m} {q} v ha hb es et em eq =
-    let ls = ap length es in
-    let lt = ap length et in
-    let x-is : x ≡ get_or a (at + k) 0 = sym (ap (λ (w : List ℕ). get_or w 0 0) es) ∙ v.due 0 (omega (arith, ls)) ∙ ap (λ (n : ℕ). get_or a n 0) (let z : at + k + 0 ≡ at + k = omega arith in z) in
-    let y-is : y ≡ get_or b (at + k) 0 = sym (ap (λ (w : List ℕ). get_or w 0 0) et) ∙ v.found 0 (omega (arith, lt)) ∙ ap (λ (n : ℕ). get_or b n 0) (let z : at + k + 0 ≡ at + k = omega arith in z) in
-    let dl = v.due-long in
-    let fl = v.found-long in
-    record {
-      counting = count_turn v.counting (omega (arith, ls)) ha hb (em ∙ ap₂ alike x-is y-is) (eq ∙ ap line_end x-is);
-      due-long = omega (arith, ls);
-      found-long = omega (arith, lt);
-      due = λ i h. sym (ap (λ (w : List ℕ). get_or w (suc i) 0) es) ∙ v.due (suc i) (omega (arith, ls)) ∙ ap (λ (n : ℕ). get_or a n 0) (let z : at + k + suc i ≡ at + (k + 1) + i = omega arith in z);
-      found = λ i h. sym (ap (λ (w : List ℕ). get_or w (suc i) 0) et) ∙ v.found (suc i) (omega (arith, lt)) ∙ ap (λ (n : ℕ). get_or b n 0) (let z : at + k + suc i ≡ at + (k + 1) + i = omega arith in z);
-    }

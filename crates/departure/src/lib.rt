@@ -79,10 +79,9 @@ fn count(due: &[u8], found: &[u8], at: usize) -> Counted
 {
     let mut equal: u8 = 0;
     let mut lines: u8 = 0;
-    let pairs = due[at..at + BLOCK].iter().zip(&found[at..at + BLOCK]);
-    for (d, f) in pairs {
-        equal += alike(*d, *f);
-        lines += line_feed(*d);
+    for i in 0..BLOCK {
+        equal += alike(due[at + i], found[at + i]);
+        lines += line_feed(due[at + i]);
     }
     Counted { equal, lines }
 }

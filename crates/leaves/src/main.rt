@@ -273,16 +273,16 @@ fn answer_line(line: &[u8], tail: &[u8], out: &mut [u8]) -> Answer {
     text::write_bytes(out, said, b"\n")
 }
 
-// Answers the case that tail begins with.
-fn one(rt: &impl Print, tail: &[u8]) -> io::Result<()> {
+// Answers the case of a line, with which tail begins.
+fn one(rt: &impl Print, line: &[u8], tail: &[u8]) -> io::Result<()> {
     let mut out = [0u8; 256];
-    let written = answer_line(asked::first_line(tail), tail, &mut out);
+    let written = answer_line(line, tail, &mut out);
     asked::print(rt, &out, written, b"long?\n")
 }
 
 fn run(rt: &impl Print, file: &[u8]) -> io::Result<()> {
     if file.len() < 65536 {
-        asked::each_line(file, |tail| one(rt, tail))
+        asked::each_line(file, |line, tail| one(rt, line, tail))
     } else {
         println!(rt; "cases: more than 65,535 bytes")
     }

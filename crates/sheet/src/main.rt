@@ -5,6 +5,9 @@
 // up.
 #![tactic(auto)]
 
+ghost use Rattle.std.specs.Prelude.{◌≡◌, ◌*◌, length};
+ghost use Rattle.feeding.specs.Bound.{step_bytes};
+
 use feed::Feed;
 use group::{Links, Table};
 use places::Packed;
@@ -33,6 +36,20 @@ impl Display for Trouble {
             Trouble::Turns => f.write_str("the day takes more turns than can be counted"),
         }
     }
+}
+
+// Room for what one call prints: twice what a step needs, so that no call gets 9.
+fn room() -> [u8; 2 * Feed::STEP]
+    ensures { 2 * step_bytes ≡ length result }
+{
+    [0; 2 * Feed::STEP]
+}
+
+// Room for what one read brings.
+fn piece_room() -> [u8; 65536]
+    ensures { 65536 ≡ length result }
+{
+    [0; 65536]
 }
 
 // Writes what was printed. With so much room nothing is refused; were it so, that would be said.
@@ -117,11 +134,10 @@ impl Day {
     }
 }
 
-// The sheet of the day on the input. There is room for twice what a step needs, so that no call of
-// the printer gets 9.
+// The sheet of the day on the input.
 fn sheet(rt: &impl Print, input: &mut impl Read) -> Result<(), Trouble> {
-    let mut out = [0; 2 * Feed::STEP];
-    let mut piece = [0; 65536];
+    let mut out = room();
+    let mut piece = piece_room();
     let begun = Feed::begin(&mut out);
     put(rt, begun.written, &out)?;
     let mut day = Day {

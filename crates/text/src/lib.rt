@@ -79,7 +79,11 @@ pub fn after_field(s: &[u8]) -> &[u8]
 pub fn field_count(s: &[u8]) -> usize
     ensures { result ≡ length (fields s.now) }
 {
-    s.iter().filter(|x| **x == b'\t').count() + 1
+    let mut n: usize = 1;
+    for x in s {
+        n += usize::from(*x == b'\t');
+    }
+    n
 }
 
 // No byte at all, or a 0 before another byte.
